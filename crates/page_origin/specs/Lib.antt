@@ -1,0 +1,4 @@
+pub mod HostSpelling
+pub mod UrlText
+pub mod FirstForm
+pub mod Origins

@@ -1,0 +1,70 @@
+ghost use Rattle.std.specs.Prelude.{◌≡◌, ◌↔◌, IfOk, IsTrue};
+
+use crate::host::HostText;
+use crate::memory::NoMemory;
+use crate::site::{Scheme, Site};
+use std::alloc::Global;
+
+/// The tuple origin of a URL: its scheme, host and port.
+#[derive(Drop, PartialEq)]
+pub struct TupleOrigin {
+    pub scheme: Scheme,
+    pub host: HostText,
+    pub port: u16,
+}
+
+/// An origin that equals no tuple: it was made for one document, and keeps the site that it comes from.
+#[derive(Drop, PartialEq)]
+pub struct OpaqueOrigin {
+    /// The number of the document.
+    pub document: u32,
+    pub precursor: Site,
+}
+
+/// An origin of the URL Standard.
+#[derive(Drop, PartialEq)]
+pub enum Origin {
+    Tuple(TupleOrigin),
+    Opaque(OpaqueOrigin),
+}
+
+impl TupleOrigin {
+    pub fn copy(&self, alloc: Global) -> Result<Self, NoMemory>
+        ensures { IfOk result (λ copy. copy ≡ self.now) }
+    {
+        Ok(TupleOrigin {
+            scheme: self.scheme,
+            host: self.host.copy(alloc)?,
+            port: self.port,
+        })
+    }
+}
+
+impl OpaqueOrigin {
+    pub fn copy(&self, alloc: Global) -> Result<Self, NoMemory>
+        ensures { IfOk result (λ copy. copy ≡ self.now) }
+    {
+        Ok(OpaqueOrigin {
+            document: self.document,
+            precursor: self.precursor.copy(alloc)?,
+        })
+    }
+}
+
+impl Origin {
+    pub fn copy(&self, alloc: Global) -> Result<Self, NoMemory>
+        ensures { IfOk result (λ copy. copy ≡ self.now) }
+    {
+        match self {
+            Origin::Tuple(tuple) => Ok(Origin::Tuple(tuple.copy(alloc)?)),
+            Origin::Opaque(opaque) => Ok(Origin::Opaque(opaque.copy(alloc)?)),
+        }
+    }
+}
+
+/// Whether two origins are equal as whole values, the precursors too.
+pub fn equal_origins(a: &Origin, b: &Origin) -> bool
+    ensures { IsTrue result ↔ (a.now ≡ b.now) }
+{
+    a == b
+}

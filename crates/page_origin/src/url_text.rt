@@ -1,0 +1,62 @@
+ghost use Rattle.std.specs.Prelude.{◌≡◌, true, IfOk, string_bytes};
+ghost use Rattle.page_origin.specs.UrlText.{is_url_spelling};
+
+use crate::memory::NoMemory;
+use crate::page::PageUrl;
+use std::alloc::Global;
+use std::marker::Model;
+
+/// The text of a URL, as an entry of a history keeps it: one or more bytes from space to tilde.
+#[derive(Drop)]
+pub struct UrlText {
+    text: String,
+}
+
+impl Model for UrlText {
+    ghost use Rattle.std.specs.Prelude.{ℕ, List, string_bytes, ◌≡◌, true};
+    ghost use Rattle.page_origin.specs.UrlText.{is_url_spelling};
+
+    ghost Value = { List ℕ };
+
+    ghost view = { λ u. string_bytes u.text };
+
+    ghost invariant = { λ u. is_url_spelling (string_bytes u.text) ≡ true };
+}
+
+impl UrlText {
+    /// The text of a page's URL.
+    pub fn of(alloc: Global, url: &PageUrl) -> Result<Self, NoMemory>
+        ensures { IfOk result (λ text. text ≡ url.now) }
+    {
+        let text = String::from_str(alloc, url.text())?;
+        Ok(UrlText { text })
+    }
+
+    pub fn as_str(&self) -> &str
+        ensures text { result.now ≡ self.now }
+        ensures spelling { is_url_spelling self.now ≡ true }
+    {
+        self.text.as_str()
+    }
+
+    pub fn copy(&self, alloc: Global) -> Result<Self, NoMemory>
+        ensures { IfOk result (λ copy. copy ≡ self.now) }
+    {
+        let text = String::from_str(alloc, self.text.as_str())?;
+        Ok(UrlText { text })
+    }
+}
+
+impl PartialEq for UrlText {
+    ghost use Rattle.std.specs.Str.{bytes_eq};
+    ghost use Rattle.std.specs.Cmp.{partial_equiv_from_equiv};
+    ghost use Rattle.std.proofs.lemmas.Cmp.{nat_list_eq_equiv};
+
+    ghost eq = { bytes_eq };
+
+    ghost laws = { partial_equiv_from_equiv nat_list_eq_equiv };
+
+    fn eq(&self, other: &Self) -> bool {
+        self.text.as_str() == other.text.as_str()
+    }
+}
