@@ -1,0 +1,5 @@
+pub mod ScriptData
+pub mod Sites
+pub mod Entries
+pub mod Processes
+pub mod Navigations
