@@ -1,0 +1,16 @@
+//! The lines of a history's text: what an entry, a message's body and a reply look like.
+//!
+//! One entry is one line that ends with a line feed. Fields are separated by one space, numbers are decimal, texts are
+//! lower-case hexadecimal, and a URL stands last. All of this is the project's own format.
+#![tactic(auto)]
+
+mod bodies;
+mod fields;
+mod lines;
+mod origins;
+mod replies;
+
+pub use lines::put_line;
+
+#[cfg(test)]
+mod tests;

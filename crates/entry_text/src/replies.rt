@@ -1,0 +1,35 @@
+//! Replies.
+
+ghost use Rattle.std.specs.Prelude.{◌≡◌, ◌++◌, OnOk, codes};
+ghost use Rattle.entry_text.specs.Lines as lines;
+
+use crate::fields::{put, put_hex, put_rule};
+use history_entry::Reply;
+use page_origin::NoMemory;
+use std::alloc::Global;
+
+/// Appends an arrow and a reply.
+#[tactic(auto, unfolding(crate::specs::Lines::reply_text))]
+pub fn put_reply(alloc: Global, out: &mut Vec<u8>, reply: &Reply) -> Result<(), NoMemory>
+    ensures { OnOk result (out.new.items ≡ out.old.items ++ (codes " => " ++ lines.reply_text reply.now)) }
+{
+    match reply {
+        Reply::Ok => put(out, b" => ok"),
+        Reply::Answer(text) => {
+            put(out, b" => answer")?;
+            put_hex(alloc, out, text.as_str().as_bytes())
+        }
+        Reply::Deny(rule) => {
+            put(out, b" => deny")?;
+            put_rule(out, *rule)
+        }
+        Reply::Drop(rule) => {
+            put(out, b" => drop")?;
+            put_rule(out, *rule)
+        }
+        Reply::Kill(rule) => {
+            put(out, b" => kill")?;
+            put_rule(out, *rule)
+        }
+    }
+}

@@ -1,0 +1,5 @@
+pub mod MayFollow
+pub mod Nexts
+pub mod Run
+pub mod Text
+pub mod Objects
