@@ -9,7 +9,9 @@ use crate::history::History;
 use history_facts::{
     Ordered, choice, commit_origin, is_locked, is_pending, opened, order_of, url_of, was_answered,
 };
-use script_model::{Entry, NoMemory, RawUrl, Reply, Script, UrlText, equal_entries, site_of_origin};
+use script_model::{
+    Entry, NoMemory, RawUrl, Reply, Script, UrlText, equal_entries, site_of_origin,
+};
 use std::alloc::Global;
 
 #[tactic(auto, unfolding(crate::specs::MayFollow::open_next))]

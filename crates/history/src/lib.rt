@@ -22,9 +22,12 @@ pub use history_entry::{
     RequestText, Rule, ServiceName, Src, Target,
 };
 pub use laws::{
-    at_most_one_entry_follows, histories_are_bounded, histories_have_one_spelling, next_entries_are_those_that_may_follow,
-    runs_are_legal, scripts_have_one_run,
+    at_most_one_entry_follows, histories_are_bounded, histories_have_one_spelling,
+    next_entries_are_those_that_may_follow, runs_are_legal, scripts_have_one_run,
 };
 pub use listing::nexts;
 pub use run::run1;
 pub use text::text_of;
+
+#[cfg(test)]
+mod tests;

@@ -60,7 +60,10 @@ fn push_process_commits(
     ensures { OnOk result (found.new.items ≡ found.old.items ++ listing.process_commits script.now entries.now process) }
 {
     for navigation in 0..script.start_count() as u32 {
-        push_some(found, commit_in_process(alloc, entries, process, navigation)?)?;
+        push_some(
+            found,
+            commit_in_process(alloc, entries, process, navigation)?,
+        )?;
     }
     Ok(())
 }

@@ -2,6 +2,7 @@
 
 ghost use Rattle.std.specs.Prelude.{◌≡◌, ◌≤◌, ◌<◌, length, count_by, IfOk};
 ghost use Rattle.std.specs.List.{list_any};
+ghost use Rattle.std.specs.Bool.{OnTrue};
 ghost use Rattle.std.specs.Option.{option_map};
 ghost use Rattle.script_model.specs.ScriptData.{starts};
 ghost use Rattle.script_model.specs.Entries.{is_opened, opens};
@@ -35,7 +36,8 @@ fn was_opened(entries: &[Entry], page: u32) -> bool
 /// Whether a navigation began: its page is opened.
 #[tactic(auto, unfolding(script_model::specs::Navigations::began))]
 pub fn began(script: &Script, entries: &[Entry], navigation: u32) -> bool
-    ensures { result ≡ navigations.began script.now entries.now navigation }
+    ensures began { result ≡ navigations.began script.now entries.now navigation }
+    ensures within { OnTrue result (navigation < starts script.now) }
 {
     (navigation as usize) < script.start_count() && was_opened(entries, navigation)
 }
@@ -83,7 +85,8 @@ pub fn was_answered(entries: &[Entry], navigation: u32) -> bool
 /// Whether a navigation began and is not ordered.
 #[tactic(auto, unfolding(script_model::specs::Navigations::is_pending))]
 pub fn is_pending(script: &Script, entries: &[Entry], navigation: u32) -> bool
-    ensures { result ≡ navigations.is_pending script.now entries.now navigation }
+    ensures pending { result ≡ navigations.is_pending script.now entries.now navigation }
+    ensures within { OnTrue result (navigation < starts script.now) }
 {
     began(script, entries, navigation) && !was_ordered(entries, navigation)
 }

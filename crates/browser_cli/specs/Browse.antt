@@ -1,0 +1,32 @@
+-- What the top call writes.
+use Rattle.std.specs.Prelude.{◌≡◌, ◌∷◌, [], ◌<◌, List, Ok, Option, codes, length, map, take, Bor, ℕ}
+use Rattle.std.specs.Io.KnownBytes.{Appends}
+use Rattle.history_entry.specs.declared.entry.Entry.{Entry}
+use Rattle.script_model.specs.ScriptData.{ScriptData}
+use Rattle.history.specs.Run.{IsRun}
+use Rattle.history.specs.Text.{text_of}
+use Rattle.browser_cli.specs.FirstForm.{script_of}
+
+-- the most bytes of input
+abbrev pub input_limit : ℕ
+input_limit = 4194304
+
+-- the words are the command `one`
+abbrev pub IsOne : List (List ℕ) → Type 0
+IsOne words = words ≡ codes "one" ∷ []
+
+-- the input is a script of the first form, and the output is the text of the one-thread run of that script
+pub record IsOutput (input output : List ℕ) : Type 0 where
+  pub script : ScriptData
+  pub is_script : script_of input ≡ Ok script
+  pub history : List Entry
+  pub is_run : IsRun script history
+  pub is_text : output ≡ text_of history
+
+-- exactly the whole output for the input was written
+abbrev pub WritesOutput : Option (List ℕ) → Option (List ℕ) → List ℕ → Type 0
+WritesOutput before now input = (output : List ℕ) × IsOutput input output × Appends before now output
+
+-- a part of the output for the input was written, from its front on
+abbrev pub WritesPart : Option (List ℕ) → Option (List ℕ) → List ℕ → Type 0
+WritesPart before now input = (output : List ℕ) × (sent : ℕ) × IsOutput input output × (sent < length output) × Appends before now (take sent output)

@@ -1,0 +1,4 @@
+pub mod Refusals
+pub mod FirstForm
+pub mod StatusLines
+pub mod Browse

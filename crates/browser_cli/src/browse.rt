@@ -1,0 +1,93 @@
+//! The top call.
+
+ghost use Rattle.std.specs.Prelude.{◌≡◌, ◌<◌, ◌↔◌, ◌+◌, [], Ok, Err, List, IfOk, IfErr, IfSome, IsTrue, OnOk, codes, length, map};
+ghost use Rattle.std.specs.Io.KnownBytes.{IsAtEnd};
+ghost use Rattle.browser_io.specs.Faults.{Rose};
+ghost use Rattle.browser_io.specs.Moved.{TakesExactly};
+ghost use Rattle.browser_cli.specs.FirstForm.{script_of};
+ghost use Rattle.browser_cli.specs.Refusals.{refusal};
+ghost use Rattle.browser_cli.specs.Browse.{IsOne, IsOutput, WritesOutput, WritesPart, input_limit};
+ghost use Rattle.browser_cli.specs.declared.refusal.Refusal.{Refusal as RefusalData};
+
+use crate::refusal::ScriptStop;
+use crate::script::read_script;
+use crate::status::Status;
+use browser_io::{ReadStop, Sink, Source, read_all, write_all};
+use history::{run1, text_of};
+use std::alloc::Global;
+
+/// The most bytes of input.
+const INPUT_LIMIT: usize = 4_194_304;
+
+fn is_word(word: &str) -> bool
+    ensures { IsTrue result ↔ (word.now ≡ codes "one") }
+{
+    word == "one"
+}
+
+fn is_one(words: &[&str]) -> bool
+    ensures { IsTrue result ↔ IsOne (map (λ w. w.now) words.now) }
+{
+    match words {
+        [word] => is_word(word),
+        _ => false,
+    }
+}
+
+fn output_of(alloc: Global, input: &[u8]) -> Result<Vec<u8>, ScriptStop>
+    ensures ok { IfOk result (λ output. IsOutput input.now output.items) }
+    ensures refused { (refused : RefusalData) → result ≡ Err (ScriptStop.Refused refused) → script_of input.now ≡ Err refused }
+{
+    let script = read_script(alloc, input)?;
+    let history = run1(alloc, &script)?;
+    Ok(text_of(alloc, &history)?)
+}
+
+/// Does all that the program does: `words` name the command, its input is read from `source` and its output written to
+/// `sink`. It waits for nobody. Nothing is written before the whole output is made.
+pub fn browse_one<S: Source, K: Sink>(
+    alloc: Global,
+    words: &[&str],
+    source: &mut S,
+    sink: &mut K,
+) -> Status
+    ensures usage { (result ≡ Status.Usage) ↔ ¬ IsOne (map (λ w. w.now) words.now) }
+
+    // What was read is a script of the first form, and exactly the text of its one-thread run was written.
+    ensures ran { result ≡ Status.Ran → IfSome (S.left source.old) (WritesOutput (K.written sink.old) (K.written sink.new)) }
+    ensures ran_read { result ≡ Status.Ran → IsAtEnd (S.left source.new) }
+
+    // The whole input was read, and this is its first refusal: X1 where it is no JSON, X9 where it is of another form.
+    ensures refused { (x : RefusalData) → result ≡ Status.Refused x → IfSome (S.left source.old) (λ input. script_of input ≡ Err x) }
+    ensures refused_codes { (x : RefusalData) → result ≡ Status.Refused x → (x ≡ refusal 1) ⊎ (x ≡ refusal 9) }
+    ensures refused_read { (x : RefusalData) → result ≡ Status.Refused x → IsAtEnd (S.left source.new) }
+
+    ensures read_fault { result ≡ Status.ReadFault → Rose (S.faults source.old) (S.faults source.new) }
+    ensures too_large { result ≡ Status.TooLarge → TakesExactly (S.left source.old) (S.left source.new) (input_limit + 1) }
+
+    // A failed write leaves a part of the whole output written, from its front on.
+    ensures write_fault { result ≡ Status.WriteFault → Rose (K.faults sink.old) (K.faults sink.new) }
+    ensures write_part { result ≡ Status.WriteFault → IfSome (S.left source.old) (WritesPart (K.written sink.old) (K.written sink.new)) }
+
+    // Nothing is written otherwise, and nothing read for other words.
+    ensures unwritten { ¬ (result ≡ Status.Ran) → ¬ (result ≡ Status.WriteFault) → sink.new ≡ sink.old }
+    ensures unread { result ≡ Status.Usage → source.new ≡ source.old }
+{
+    if !is_one(words) {
+        return Status::Usage;
+    }
+    let input = match read_all(alloc, source, INPUT_LIMIT) {
+        Ok(input) => input,
+        Err(ReadStop::Fault) => return Status::ReadFault,
+        Err(ReadStop::TooLarge) => return Status::TooLarge,
+        Err(ReadStop::NoMemory) => return Status::NoMemory,
+    };
+    match output_of(alloc, &input) {
+        Ok(output) => match write_all(sink, &output) {
+            Ok(()) => Status::Ran,
+            Err(_) => Status::WriteFault,
+        },
+        Err(ScriptStop::Refused(refusal)) => Status::Refused(refusal),
+        Err(ScriptStop::NoMemory) => Status::NoMemory,
+    }
+}
