@@ -1,0 +1,32 @@
+//! Where bytes come from and where they go to: sources and sinks, each with a count of its faults.
+//!
+//! A [`Source`] and a [`Sink`] are byte streams after `std::io`'s `Read` and `Write`, with what
+//! those leave open said: a call that fails moves no byte, and shows in a count of faults that
+//! never falls. [`MemSource`] and [`MemSink`] are streams in memory that fail where they are told
+//! to; [`InputSource`] and [`OutputSink`] take any reader or writer. [`read_all`] and
+//! [`write_all`] move everything, and say exactly what was moved when they stop early.
+#![tactic(auto)]
+
+mod failed;
+mod input_source;
+mod memory_sink;
+mod memory_source;
+mod no_memory;
+mod output_sink;
+mod reading;
+mod sink;
+mod source;
+#[cfg(test)]
+mod tests;
+mod writing;
+
+pub use failed::Failed;
+pub use input_source::InputSource;
+pub use memory_sink::MemSink;
+pub use memory_source::MemSource;
+pub use no_memory::NoMemory;
+pub use output_sink::OutputSink;
+pub use reading::{ReadStop, read_all};
+pub use sink::Sink;
+pub use source::Source;
+pub use writing::{WriteStop, write_all};
