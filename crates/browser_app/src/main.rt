@@ -23,7 +23,7 @@ fn main(rt: HostRuntime) -> io::Result<ExitCode> {
     if let Ok(line) = status_line(alloc, &status) {
         let text = line.as_str();
         if !text.is_empty() {
-            eprintln!(rt; "{text}")?;
+            let _ = eprintln!(rt; "{text}");
         }
     }
     Ok(ExitCode::from(status.exit_code()))

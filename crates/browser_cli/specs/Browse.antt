@@ -1,5 +1,5 @@
 -- What the top call writes.
-use Rattle.std.specs.Prelude.{◌≡◌, ◌∷◌, [], ◌<◌, List, Ok, Option, codes, length, map, take, Bor, ℕ}
+use Rattle.std.specs.Prelude.{◌≡◌, ◌∷◌, [], ◌<◌, List, Ok, Option, codes, length, take, ℕ}
 use Rattle.std.specs.Io.KnownBytes.{Appends}
 use Rattle.history_entry.specs.declared.entry.Entry.{Entry}
 use Rattle.script_model.specs.ScriptData.{ScriptData}

@@ -9,9 +9,7 @@ ghost use Rattle.browser_cli.specs.FirstForm.{Finds, Reads};
 ghost use Rattle.browser_cli.specs.declared.script.FormStop.TheVariants as stops;
 
 use crate::refusal::{Refusal, ScriptStop};
-use script_model::{
-    PageUrl, PageUrls, Resource, Resources, Script, UrlRefusal, page_url,
-};
+use script_model::{PageUrl, PageUrls, Resource, Resources, Script, UrlRefusal, page_url};
 use serde_json::{Map, Value};
 use std::alloc::{AllocFailed, Global};
 

@@ -50,9 +50,27 @@ fn commands_end_with_their_status(rt: HostRuntime) -> Result<(), Fail> {
     let cases: [(&[&str], &str, u8, &str, &str); 12] = [
         (&["one"], PAGE, 0, "", PAGE_TEXT),
         (&["one"], r#"{"start":[]}"#, 0, "", ""),
-        (&["one"], r#"{"start":["https://b.org/"]}"#, 0, "", OTHER_TEXT),
-        (&["one"], r#"{"start":["https://a.com/x"]}"#, 5, "refused X9", ""),
-        (&["one"], r#"{"start":["https://a.com/"],"resou"#, 5, "refused X1", ""),
+        (
+            &["one"],
+            r#"{"start":["https://b.org/"]}"#,
+            0,
+            "",
+            OTHER_TEXT,
+        ),
+        (
+            &["one"],
+            r#"{"start":["https://a.com/x"]}"#,
+            5,
+            "refused X9",
+            "",
+        ),
+        (
+            &["one"],
+            r#"{"start":["https://a.com/"],"resou"#,
+            5,
+            "refused X1",
+            "",
+        ),
         (&["one"], "[]", 5, "refused X9", ""),
         (&["one"], "", 5, "refused X1", ""),
         (&[], PAGE, 2, usage, ""),
@@ -139,7 +157,13 @@ fn lines_of_refusals_name_path_and_line(rt: HostRuntime) -> Result<(), Fail> {
         line: 3,
     });
     assert_eq!(rt; status_line(alloc, &status)?.as_str(), "refused X4 line 3");
-    assert_eq!(rt; status_line(alloc, &Status::TooLarge)?.as_str(), "too large");
-    assert_eq!(rt; status_line(alloc, &Status::NoMemory)?.as_str(), "no memory");
+    assert_eq!(rt;
+        status_line(alloc, &Status::TooLarge)?.as_str(),
+        "too large"
+    );
+    assert_eq!(rt;
+        status_line(alloc, &Status::NoMemory)?.as_str(),
+        "no memory"
+    );
     Ok(())
 }
