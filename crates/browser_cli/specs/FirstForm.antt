@@ -1,7 +1,7 @@
 -- The scripts of the first form, over the JSON value of the bytes. Own format.
 -- An object with the key `start` and perhaps the key `resources`, and no other key: `start` is a list of at most one URL, `resources` a list of
 -- at most one object whose only key is `url`, a URL. JSON is what `serde_json` reads from UTF-8 text.
-use Rattle.std.specs.Prelude.{◌≡◌, ◌&&◌, ◌==◌, ◌∷◌, [], Bool, List, None, Option, Result, Ok, Err, Some, bytes_eq, codes, false, if◌then◌else◌, length, option_and_then, option_map, true, ⊤, ℕ}
+use Rattle.std.specs.Prelude.{◌≡◌, ◌&&◌, ◌==◌, ◌∷◌, [], Bool, List, None, Option, Result, Ok, Err, Some, bytes_eq, codes, if◌then◌else◌, length, option_and_then, option_map, true, ⊤, ℕ}
 use Rattle.std.specs.List.{list_any}
 use Rattle.std.specs.Option.{option_map_or}
 use Rattle.std.specs.Str.Lossy.{utf8_valid_len}

@@ -1,3 +1,5 @@
+ghost use Rattle.std.specs.Prelude.{◌≤◌};
+
 use crate::{PathText, Refusal, Status, browse_one, read_script, status_line};
 use browser_io::{MemSink, MemSource};
 use std::alloc::Global;
@@ -16,7 +18,8 @@ commit 0 0 https://b.org 68747470733a2f2f622e6f72672f => ok
 ";
 
 // The exit status, the line on standard error and what was written, of a run over memory.
-struct Run {
+#[derive(Drop)]
+struct Ended {
     code: u8,
     line: String,
     written: String,
@@ -29,7 +32,7 @@ fn run(
     step: usize,
     failing_read: Option<u64>,
     failing_write: Option<u64>,
-) -> Result<Run, Fail>
+) -> Result<Ended, Fail>
     requires { 1 ≤ step }
 {
     let bytes = input.as_bytes().to_vec(alloc)?;
@@ -37,7 +40,7 @@ fn run(
     let mut sink = MemSink::new(alloc, 4096, step, failing_write.into_iter().collect(alloc)?)?;
     let status = browse_one(alloc, words, &mut source, &mut sink);
     let line = status_line(alloc, &status)?;
-    Ok(Run {
+    Ok(Ended {
         code: status.exit_code(),
         line: String::from_str(alloc, line.as_str())?,
         written: String::from_utf8_lossy(alloc, sink.written())?,

@@ -1,6 +1,5 @@
 use Rattle.std.proofs.Common.{◌≡◌, ◌∙◌, ap, Err}
 use Rattle.browser_cli.proofs.RefusalsLemmas.{two_refusals}
-use Rattle.browser_cli.specs.declared.refusal.Refusal.{Refusal}
 use Rattle.browser_cli.specs.declared.refusal.ScriptStop.TheVariants.{Refused as Stopped}
 use Rattle.browser_cli.proofs.browse.browse_one.Goals as goal
 
