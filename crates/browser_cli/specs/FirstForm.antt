@@ -1,14 +1,18 @@
 -- The scripts of the first form, over the JSON value of the bytes. Own format.
 -- An object with the key `start` and perhaps the key `resources`, and no other key: `start` is a list of at most one URL, `resources` a list of
 -- at most one object whose only key is `url`, a URL. JSON is what `serde_json` reads from UTF-8 text.
-use Rattle.std.specs.Prelude.{◌≡◌, ◌&&◌, ◌==◌, ◌∷◌, [], Bool, List, None, Option, Result, Ok, Err, Some, bytes_eq, codes, if◌then◌else◌, length, option_and_then, option_map, true, ⊤, ℕ}
+use Rattle.std.specs.Prelude.{◌≡◌, ◌&&◌, ◌==◌, ◌∷◌, [], Bool, List, None, Option, Result, Ok, Err, Some, bytes_eq, codes, false, if◌then◌else◌, length, option_and_then, option_map, true, ⊤, ℕ}
 use Rattle.std.specs.List.{list_any}
 use Rattle.std.specs.Option.{option_map_or}
 use Rattle.std.specs.Str.Lossy.{utf8_valid_len}
 use Rattle.serde_json.specs.Data.{Data, Items, no_items, item, Members, no_members, member}
 use Rattle.serde_json.specs.Read.{read}
 use Rattle.serde_json.specs.Find.{get, as_str, as_array, as_object}
-use Rattle.page_origin.specs.FirstForm.{is_first_form}
+use Rattle.page_origin.specs.PageUrls.{class_of, page_url_of}
+use Rattle.page_origin.specs.declared.class.UrlClass.{UrlClass}
+use Rattle.page_origin.specs.declared.class.UrlClass.TheVariants.{Web, AboutBlank, AboutSrcdoc, DataUrl, Foreign}
+use Rattle.page_origin.specs.declared.page.UrlRefusal.{UrlRefusal}
+use Rattle.browser_cli.specs.UrlForm.{is_first_form}
 use Rattle.script_model.specs.ScriptData.{ScriptData}
 use Rattle.script_model.specs.declared.script.Resource.{Resource}
 use Rattle.browser_cli.specs.declared.refusal.Refusal.{Refusal}
@@ -18,9 +22,22 @@ use Rattle.browser_cli.specs.declared.script.FormStop.{FormStop}
 use Rattle.browser_cli.specs.declared.script.FormStop.TheVariants as form
 use Rattle.browser_cli.specs.Refusals.{refusal}
 
--- the text, where it is a URL of the first form
+-- the class is Web
+abbrev pub is_web : UrlClass → Bool
+is_web Web = true
+is_web AboutBlank = false
+is_web AboutSrcdoc = false
+is_web DataUrl = false
+is_web Foreign = false
+
+-- a URL that is a page's
+abbrev pub page_in : Result (List ℕ) UrlRefusal → Option (List ℕ)
+page_in (Ok url) = if is_web (class_of url) then Some url else None
+page_in (Err refused) = None
+
+-- the URL that a text of the first form names
 abbrev pub url_in : List ℕ → Option (List ℕ)
-url_in text = if is_first_form text then Some text else None
+url_in text = if is_first_form text then page_in (page_url_of text) else None
 
 -- a URL of the first form
 unfoldable pub url_at : Data → Option (List ℕ)
@@ -62,7 +79,7 @@ resources_of d = option_map_or resources_at (get (codes "resources") d) (Some []
 
 -- the script that an object is
 unfoldable pub script_in : Data → Option ScriptData
-script_in d = option_and_then (λ start. option_map (λ resources. record { start = start; resources = resources }) (resources_of d))
+script_in d = option_and_then (λ start. option_map (λ resources. record { rules = []; start = start; resources = resources }) (resources_of d))
     (option_and_then start_at (get (codes "start") d))
 
 -- the script that a JSON value is, where it has the first form

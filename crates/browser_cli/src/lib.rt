@@ -9,6 +9,7 @@ mod browse;
 mod refusal;
 mod script;
 mod status;
+mod url_form;
 
 pub use browse::browse_one;
 pub use refusal::{PathText, Refusal, ScriptStop};

@@ -1,7 +1,8 @@
 //! Scripts of the first form.
 
-ghost use Rattle.std.specs.Prelude.{◌≡◌, ◌∷◌, [], ◌↔◌, ◌≤◌, List, Some, None, codes, map, length, option_and_then, IfOk, Ok};
+ghost use Rattle.std.specs.Prelude.{◌≡◌, ◌∷◌, [], ◌↔◌, ◌≤◌, List, Some, None, codes, map, length, option_and_then, All, IfOk, Ok};
 ghost use Rattle.std.specs.Option.{option_map};
+ghost use Rattle.page_origin.specs.PageUrls.{class_of};
 ghost use Rattle.serde_json.specs.View.{view, items_view, members_view};
 ghost use Rattle.serde_json.specs.Read.{read};
 ghost use Rattle.browser_cli.specs.FirstForm as form;
@@ -9,7 +10,10 @@ ghost use Rattle.browser_cli.specs.FirstForm.{Finds, Reads};
 ghost use Rattle.browser_cli.specs.declared.script.FormStop.TheVariants as stops;
 
 use crate::refusal::{Refusal, ScriptStop};
-use script_model::{PageUrl, PageUrls, Resource, Resources, Script, UrlRefusal, page_url};
+use crate::url_form::is_first_form;
+use script_model::{
+    PageUrl, PageUrls, Resource, Resources, Rules, Script, UrlClass, UrlRefusal, page_url,
+};
 use serde_json::{Map, Value};
 use std::alloc::{AllocFailed, Global};
 
@@ -29,18 +33,30 @@ impl<T: Drop> From<AllocFailed<T>> for FormStop {
 }
 
 fn text_url(alloc: Global, text: &str) -> Result<PageUrl, FormStop>
-    ensures { Finds result (form.url_in text.now) }
+    ensures found { Finds result (form.url_in text.now) }
+    ensures web { IfOk result (λ url. class_of url ≡ UrlClass.Web) }
 {
+    if !is_first_form(text.as_bytes()) {
+        return Err(FormStop::WrongForm);
+    }
     match page_url(alloc, text) {
-        Ok(url) => Ok(url),
-        Err(UrlRefusal::BadUrl) => Err(FormStop::WrongForm),
+        Ok(url) => {
+            if url.class() == UrlClass::Web {
+                Ok(url)
+            } else {
+                Err(FormStop::WrongForm)
+            }
+        }
         Err(UrlRefusal::NoMemory) => Err(FormStop::NoMemory),
+        Err(UrlRefusal::TooLong) => Err(FormStop::WrongForm),
+        Err(UrlRefusal::BadUrl) => Err(FormStop::WrongForm),
     }
 }
 
 #[tactic(auto, unfolding(crate::specs::FirstForm::url_at))]
 fn url_at(alloc: Global, value: &Value) -> Result<PageUrl, FormStop>
-    ensures { Finds result (form.url_at (view value.now)) }
+    ensures found { Finds result (form.url_at (view value.now)) }
+    ensures web { IfOk result (λ url. class_of url ≡ UrlClass.Web) }
 {
     match value.as_str() {
         Some(text) => text_url(alloc, text),
@@ -99,6 +115,7 @@ fn resource_at(alloc: Global, value: &Value) -> Result<Resource, FormStop>
 fn start_in(alloc: Global, values: &[Value]) -> Result<PageUrls, FormStop>
     ensures found { Finds result (form.at_most_one form.url_at (items_view values.now)) }
     ensures few { IfOk result (λ urls. length urls ≤ 1) }
+    ensures web { IfOk result (All (λ url. class_of url ≡ UrlClass.Web)) }
 {
     let mut urls = Vec::new(alloc);
     match values {
@@ -115,6 +132,7 @@ fn start_in(alloc: Global, values: &[Value]) -> Result<PageUrls, FormStop>
 fn start_at(alloc: Global, value: &Value) -> Result<PageUrls, FormStop>
     ensures found { Finds result (form.start_at (view value.now)) }
     ensures few { IfOk result (λ urls. length urls ≤ 1) }
+    ensures web { IfOk result (All (λ url. class_of url ≡ UrlClass.Web)) }
 {
     match value.as_array() {
         Some(values) => start_in(alloc, values.as_slice()),
@@ -168,7 +186,11 @@ fn script_in(alloc: Global, value: &Value) -> Result<Script, FormStop>
     };
     let start = start_at(alloc, start)?;
     let resources = resources_of(alloc, value)?;
-    Ok(Script { start, resources })
+    Ok(Script {
+        rules: Rules::new(alloc),
+        start,
+        resources,
+    })
 }
 
 #[tactic(auto, unfolding(crate::specs::FirstForm::script_at))]

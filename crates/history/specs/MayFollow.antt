@@ -8,7 +8,7 @@ use Rattle.script_model.specs.Entries.{OrderData, is_opened}
 use Rattle.script_model.specs.Navigations.{commit_origin, is_pending, order_of, url_of, was_answered}
 use Rattle.script_model.specs.Processes.{choice, is_locked}
 use Rattle.script_model.specs.ScriptData.{ScriptData, starts}
-use Rattle.script_model.specs.Sites.{site_of_origin}
+use Rattle.site_url.specs.Sites.{site_of_origin}
 
 -- the next start page is opened
 unfoldable pub open_next : ScriptData → List Entry → Option Entry
@@ -16,7 +16,7 @@ open_next s h = if nat_lt (count_by is_opened h) (starts s) then Some (Opened (c
 
 -- the order of a navigation to process p: with the commit origin, its site, and the URL
 unfoldable pub order_to : ScriptData → ℕ → ℕ → Entry
-order_to s n p = Order n p (site_of_origin (commit_origin s n)) (commit_origin s n) (url_of s n)
+order_to s n p = Order n p (site_of_origin s.rules (commit_origin s n)) (commit_origin s n) (url_of s n)
 
 -- a pending navigation is ordered to the process that is chosen, if there is one
 unfoldable pub order_next : ScriptData → List Entry → ℕ → Option Entry

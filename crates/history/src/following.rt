@@ -37,7 +37,7 @@ fn order_to(
     ensures { IfOk result (λ entry. entry ≡ following.order_to script.now navigation process) }
 {
     let origin = commit_origin(alloc, script, navigation)?;
-    let site = site_of_origin(alloc, &origin)?;
+    let site = site_of_origin(alloc, &script.rules, &origin)?;
     let url = UrlText::of(alloc, url_of(script, navigation))?;
     Ok(Entry::Order(navigation, process, site, origin, url))
 }

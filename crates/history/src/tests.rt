@@ -1,7 +1,7 @@
 ghost use Rattle.std.specs.Prelude.{◌≤◌, length};
 
 use crate::{History, may, nexts, run1, text_of};
-use script_model::{Entry, PageUrls, Resources, Script, page_url};
+use script_model::{Entry, PageUrls, Resources, Rules, Script, page_url};
 use std::alloc::Global;
 use std::test::Fail;
 
@@ -13,6 +13,7 @@ fn script(alloc: Global, pages: &[&str]) -> Result<Script, Fail>
         start.push(page_url(alloc, page)?)?;
     }
     Ok(Script {
+        rules: Rules::new(alloc),
         start: PageUrls::from_vec(start),
         resources: Resources::from_vec(Vec::new(alloc)),
     })

@@ -4,6 +4,7 @@ ghost use Rattle.std.specs.Prelude.{◌≡◌, ◌≤◌, ◌<◌, length, count
 ghost use Rattle.std.specs.List.{list_any};
 ghost use Rattle.std.specs.Bool.{OnTrue};
 ghost use Rattle.std.specs.Option.{option_map};
+ghost use Rattle.page_origin.specs.PageUrls.{class_of};
 ghost use Rattle.script_model.specs.ScriptData.{starts};
 ghost use Rattle.script_model.specs.Entries.{is_opened, opens};
 ghost use Rattle.script_model.specs.Navigations as navigations;
@@ -11,7 +12,7 @@ ghost use Rattle.history_facts.specs.Orders.{order_view};
 
 use crate::entry;
 use crate::order::Ordered;
-use script_model::{Entry, NoMemory, Origin, PageUrl, Script, tuple_of};
+use script_model::{Entry, NoMemory, Origin, PageUrl, Script, UrlClass, tuple_of};
 use std::alloc::Global;
 
 /// How many start pages are opened.
@@ -95,9 +96,10 @@ pub fn is_pending(script: &Script, entries: &[Entry], navigation: u32) -> bool
 #[tactic(auto, unfolding(script_model::specs::Navigations::url_of))]
 pub fn url_of(script: &Script, navigation: u32) -> &PageUrl
     requires { navigation < starts script.now }
-    ensures { result.now ≡ navigations.url_of script.now navigation }
+    ensures url { result.now ≡ navigations.url_of script.now navigation }
+    ensures web { class_of result.now ≡ UrlClass.Web }
 {
-    script.start.get(navigation as usize).unwrap()
+    script.page(navigation)
 }
 
 /// The origin that a navigation commits with.

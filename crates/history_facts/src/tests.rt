@@ -3,14 +3,15 @@ use crate::{
     opened, order_of, started, url_of, was_answered, was_ordered,
 };
 use script_model::{
-    Entry, Origin, PageUrls, RawUrl, Reply, Resources, Script, UrlText, page_url, site_of_origin,
-    tuple_of,
+    Entry, Origin, PageUrls, RawUrl, Reply, Resources, Rules, Script, UrlText, page_url,
+    site_of_origin, tuple_of,
 };
 use std::alloc::Global;
 use std::test::Fail;
 
 fn script(alloc: Global) -> Result<Script, Fail> {
     Ok(Script {
+        rules: Rules::new(alloc),
         start: PageUrls::from_vec(vec![in alloc; page_url(alloc, "https://a.com/")?]?),
         resources: Resources::from_vec(Vec::new(alloc)),
     })

@@ -1,1 +1,2 @@
-pub mod FirstFormLemmas
+pub mod PageUrlLemmas
+pub mod HostLemmas

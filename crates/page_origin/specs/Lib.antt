@@ -1,4 +1,6 @@
 pub mod HostSpelling
 pub mod UrlText
-pub mod FirstForm
+pub mod PageUrls
+pub mod PageUrlLayout
 pub mod Origins
+pub mod Refusals

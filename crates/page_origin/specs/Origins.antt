@@ -1,14 +1,34 @@
 -- Sites and origins: tuples after the URL Standard, and opaque ones, each made for one document. Their texts are those of a history.
-use Rattle.std.specs.Prelude.{ℕ, Bool, true, false, ◌==◌, ◌&&◌, List, [], ◌++◌, codes, bytes_eq, decimal, if◌then◌else◌}
+use Rattle.std.specs.Prelude.{ℕ, Bool, true, false, ◌==◌, ◌&&◌, List, [], ◌++◌, codes, bytes_eq, decimal, unwrap_or, if◌then◌else◌}
+use Rattle.std.specs.Option.{option_or, option_map_or}
+use Rattle.url.specs.Parts.{Parts, host_or_empty}
+use Rattle.url.specs.Scheme.{default_port}
+use Rattle.url.specs.Host.{host_text}
 use Rattle.page_origin.specs.declared.site.Scheme.{Scheme}
 use Rattle.page_origin.specs.declared.site.Scheme.TheVariants.{Http, Https}
 use Rattle.page_origin.specs.declared.site.Site.{Site}
 use Rattle.page_origin.specs.declared.origin.TupleOrigin.{TupleOrigin}
-use Rattle.page_origin.specs.FirstForm.{host_between}
+use Rattle.page_origin.specs.declared.origin.Origin.{Origin}
+use Rattle.page_origin.specs.declared.origin.Origin.TheVariants.{Tuple, Opaque}
+use Rattle.page_origin.specs.PageUrls.{parts_of}
 
--- the tuple origin of a URL of the first form: its scheme, its host and the scheme's own port
+abbrev pub scheme_of_parts : Parts → Scheme
+scheme_of_parts url = if bytes_eq url.scheme (codes "http") then Http else Https
+
+-- the scheme, the host and the port of a URL's parts; the scheme's own port where none is written
+abbrev pub tuple_of_parts : Parts → TupleOrigin
+tuple_of_parts url = record {
+  scheme = scheme_of_parts url;
+  host = host_text (host_or_empty url);
+  port = unwrap_or (option_or url.port (default_port url.scheme)) 0;
+}
+
+abbrev pub no_tuple : TupleOrigin
+no_tuple = record { scheme = Http; host = []; port = 0 }
+
+-- the tuple origin of a URL of class Web, by its text
 unfoldable pub tuple_of : List ℕ → TupleOrigin
-tuple_of url = record { scheme = Https; host = host_between url; port = 443 }
+tuple_of text = option_map_or tuple_of_parts (parts_of text) no_tuple
 
 abbrev pub scheme_text : Scheme → List ℕ
 scheme_text Http = codes "http"
@@ -36,3 +56,29 @@ same_scheme Https Https = true
 
 abbrev pub equal_sites : Site → Site → Bool
 equal_sites a b = same_scheme a.scheme b.scheme && bytes_eq a.host b.host
+
+abbrev pub equal_tuples : TupleOrigin → TupleOrigin → Bool
+equal_tuples a b = same_scheme a.scheme b.scheme && bytes_eq a.host b.host && (a.port == b.port)
+
+-- the same origin: equal tuples, or opaque origins of one document
+abbrev pub same_origin : Origin → Origin → Bool
+same_origin (Tuple a) (Tuple b) = equal_tuples a b
+same_origin (Tuple a) (Opaque b) = false
+same_origin (Opaque a) (Tuple b) = false
+same_origin (Opaque a) (Opaque b) = a.document == b.document
+
+-- equal as whole values, the precursors too
+abbrev pub equal_origins : Origin → Origin → Bool
+equal_origins (Tuple a) (Tuple b) = equal_tuples a b
+equal_origins (Tuple a) (Opaque b) = false
+equal_origins (Opaque a) (Tuple b) = false
+equal_origins (Opaque a) (Opaque b) = (a.document == b.document) && equal_sites a.precursor b.precursor
+
+-- the origin is the tuple origin of this URL of class Web
+abbrev pub has_origin : List ℕ → Origin → Bool
+has_origin url origin = same_origin origin (Tuple (tuple_of url))
+
+-- the text of an origin: that of a tuple, or `null`
+abbrev pub origin_text : Origin → List ℕ
+origin_text (Tuple o) = tuple_text o
+origin_text (Opaque o) = codes "null"

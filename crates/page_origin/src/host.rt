@@ -23,7 +23,8 @@ impl Model for HostText {
 }
 
 impl HostText {
-    pub(crate) fn new(text: String) -> Self
+    /// The host with this text.
+    pub fn new(text: String) -> Self
         requires { is_host (string_bytes text) ≡ true }
         ensures { result ≡ string_bytes text }
     {

@@ -1,22 +1,29 @@
 //! Hosts, sites and origins, and the URLs of pages.
 //!
-//! Tuple origins are those of the URL Standard. A site is a scheme with a host, and an opaque origin is made for one
-//! document and keeps the site that it comes from. URLs of pages have one form for now: `https://`, a label, a dot, a
-//! label and a slash.
+//! The URLs of pages are read, joined and serialized by the URL Standard, as the crate `url` defines it; they have at
+//! most 2,048 bytes, all printable. Tuple origins and their texts are those of the URL Standard. An opaque origin is
+//! made for one document, and keeps the site that it comes from. A site is a scheme with a host.
 #![tactic(auto)]
 
+mod class;
 mod host;
 mod memory;
 mod origin;
+mod origin_spelling;
 mod page;
+mod parts;
 mod site;
+mod tuple;
 mod url_text;
 
+pub use class::UrlClass;
 pub use host::HostText;
 pub use memory::NoMemory;
-pub use origin::{OpaqueOrigin, Origin, TupleOrigin, equal_origins};
-pub use page::{PageUrl, UrlRefusal, page_url, tuple_of};
+pub use origin::{OpaqueOrigin, Origin, TupleOrigin, equal_origins, same_origin};
+pub use origin_spelling::{OriginText, origin_text};
+pub use page::{PageUrl, UrlRefusal, join_url, page_url};
 pub use site::{Scheme, Site, equal_sites};
+pub use tuple::{has_origin, tuple_of};
 pub use url_text::UrlText;
 
 #[cfg(test)]

@@ -1,4 +1,5 @@
 ghost use Rattle.std.specs.Prelude.{◌≡◌, ◌↔◌, IfOk, IsTrue};
+ghost use Rattle.page_origin.specs.Origins.{same_origin};
 
 use crate::host::HostText;
 use crate::memory::NoMemory;
@@ -67,4 +68,16 @@ pub fn equal_origins(a: &Origin, b: &Origin) -> bool
     ensures { IsTrue result ↔ (a.now ≡ b.now) }
 {
     a == b
+}
+
+/// Whether two origins are the same: equal tuples, or opaque origins that were made for one document. This takes no
+/// memory.
+pub fn same_origin(a: &Origin, b: &Origin) -> bool
+    ensures { result ≡ same_origin a.now b.now }
+{
+    match (a, b) {
+        (Origin::Tuple(a), Origin::Tuple(b)) => a == b,
+        (Origin::Opaque(a), Origin::Opaque(b)) => a.document == b.document,
+        _ => false,
+    }
 }

@@ -1,150 +1,164 @@
-ghost use Rattle.std.specs.Prelude.{◌≡◌, ◌≤◌, ◌-◌, ◌↔◌, true, false, length, take, drop, codes, bytes_eq, IfOk, string_bytes};
-ghost use Rattle.std.specs.List.{list_all, position_or_len};
-ghost use Rattle.page_origin.specs.FirstForm as form;
+ghost use Rattle.std.specs.Prelude.{◌≡◌, true, IfOk, None, Ok};
+ghost use Rattle.std.specs.List.{list_all};
+ghost use Rattle.url.specs.Parser.{parse_url};
 ghost use Rattle.page_origin.specs.HostSpelling.{is_host};
-ghost use Rattle.page_origin.specs.UrlText.{is_url_spelling};
+ghost use Rattle.page_origin.specs.UrlText.{is_printable, is_url_spelling};
+ghost use Rattle.page_origin.specs.PageUrls.{Gives, page_url_of, join_url_of, url_text, admitted, key_of, class_of};
 ghost use Rattle.page_origin.specs.Origins as origins;
 
-use crate::host::HostText;
+use crate::class::UrlClass;
 use crate::memory::NoMemory;
-use crate::origin::TupleOrigin;
+use crate::parts::{class_of_url, host_of_url, is_printable, refusal, scheme_of_url, text_of_url};
 use crate::site::Scheme;
 use std::alloc::Global;
 use std::marker::Model;
+use thiserror::Error;
+use url::Url;
+
+/// The most bytes that the text of a URL has.
+const MAX_LENGTH: usize = 2048;
 
 /// Why a text is no page's URL.
-#[derive(Clone, Copy, Debug, PartialEq, Eq)]
+#[derive(Clone, Copy, Debug, PartialEq, Eq, Error)]
 pub enum UrlRefusal {
+    /// The text, or the URL's own text, has more than 2,048 bytes.
+    #[error("the URL has more than 2048 bytes")]
+    TooLong,
+    /// The text is no URL by the URL Standard, or the URL's own text has a byte that is not printable.
+    #[error("the text is no URL")]
     BadUrl,
+    /// Memory ran out.
+    #[error("memory ran out")]
     NoMemory,
 }
 
-/// The URL of a page, seen as its text.
+/// The URL of a page, by the URL Standard, seen as its text.
 #[derive(Drop)]
 pub struct PageUrl {
-    text: String,
+    url: Url,
 }
 
 impl Model for PageUrl {
-    ghost use Rattle.std.specs.Prelude.{ℕ, List, string_bytes, ◌≡◌, true};
-    ghost use Rattle.page_origin.specs.FirstForm.{is_first_form};
+    ghost use Rattle.std.specs.Prelude.{List, ℕ};
+    ghost use Rattle.page_origin.specs.PageUrls.{url_text};
+    ghost use Rattle.page_origin.specs.PageUrlLayout.{IsPageUrl};
 
     ghost Value = { List ℕ };
 
-    ghost view = { λ u. string_bytes u.text };
+    ghost view = { λ page. url_text page.url };
 
-    ghost invariant = { λ u. is_first_form (string_bytes u.text) ≡ true };
+    ghost invariant = { λ page. IsPageUrl page.url };
+}
+
+/// The page's URL with these parts, unless its text is too long or has a byte that is not printable.
+#[tactic(auto, unfolding(crate::specs::PageUrls::admitted))]
+fn admit(url: Url) -> Result<PageUrl, UrlRefusal>
+    requires { parse_url None (url_text url) ≡ Ok url }
+    ensures { result ≡ admitted (url_text url) }
+{
+    if text_of_url(&url).len() > MAX_LENGTH {
+        return Err(UrlRefusal::TooLong);
+    }
+    if !is_printable(text_of_url(&url)) {
+        return Err(UrlRefusal::BadUrl);
+    }
+    Ok(PageUrl { url })
+}
+
+/// The URL that a text names.
+pub fn page_url(alloc: Global, text: &str) -> Result<PageUrl, UrlRefusal>
+    ensures { Gives result (page_url_of text.now) }
+{
+    if text.len() > MAX_LENGTH {
+        return Err(UrlRefusal::TooLong);
+    }
+    match Url::parse(alloc, text) {
+        Ok(url) => {
+            let _valid = url.as_str();
+            admit(url)
+        }
+        Err(error) => Err(refusal(error)),
+    }
+}
+
+/// The URL that a text names against the URL of a page of class [`UrlClass::Web`].
+pub fn join_url(_alloc: Global, base: &PageUrl, text: &str) -> Result<PageUrl, UrlRefusal>
+    requires { class_of base.now ≡ UrlClass.Web }
+    ensures { Gives result (join_url_of base.now text.now) }
+{
+    if text.len() > MAX_LENGTH {
+        return Err(UrlRefusal::TooLong);
+    }
+    let _valid_base = base.url.as_str();
+    match base.url.join(text) {
+        Ok(url) => {
+            let _valid = url.as_str();
+            admit(url)
+        }
+        Err(error) => Err(refusal(error)),
+    }
 }
 
 impl PageUrl {
-    #[tactic(auto, using(crate::proofs::FirstFormLemmas::first_form_printable))]
+    /// The URL's text.
+    #[tactic(auto, using(crate::proofs::PageUrlLemmas::page_spelling))]
     pub fn text(&self) -> &str
         ensures text { result.now ≡ self.now }
-        ensures form { form.is_first_form self.now ≡ true }
         ensures spelling { is_url_spelling self.now ≡ true }
     {
-        self.text.as_str()
+        text_of_url(&self.url)
     }
 
-    pub fn copy(&self, alloc: Global) -> Result<Self, NoMemory>
-        ensures { IfOk result (λ copy. copy ≡ self.now) }
+    /// The URL's text without its fragment.
+    pub fn key(&self) -> &str
+        ensures { result.now ≡ key_of self.now }
     {
-        let text = String::from_str(alloc, self.text.as_str())?;
-        Ok(PageUrl { text })
-    }
-}
-
-/// The URL that a text is, where it has the first form.
-pub fn page_url(alloc: Global, text: &str) -> Result<PageUrl, UrlRefusal>
-    ensures ok { IfOk result (λ url. (url ≡ text.now)) }
-    ensures form { IfOk result (λ url. form.is_first_form text.now ≡ true) }
-    ensures bad { result ≡ Err UrlRefusal.BadUrl → form.is_first_form text.now ≡ false }
-{
-    if !is_first_form(text.as_bytes()) {
-        return Err(UrlRefusal::BadUrl);
-    }
-    match String::from_str(alloc, text) {
-        Ok(text) => Ok(PageUrl { text }),
-        Err(_) => Err(UrlRefusal::NoMemory),
-    }
-}
-
-/// The tuple origin of a page's URL.
-pub fn tuple_of(alloc: Global, url: &PageUrl) -> Result<TupleOrigin, NoMemory>
-    ensures { IfOk result (λ origin. origin ≡ origins.tuple_of url.now) }
-{
-    Ok(TupleOrigin {
-        scheme: Scheme::Https,
-        host: host_of(alloc, url.text())?,
-        port: 443,
-    })
-}
-
-fn is_label(text: &[u8]) -> bool
-    ensures { result ≡ form.is_label text.now }
-{
-    text.len() >= 1 && text.len() <= 63 && all_lower(text)
-}
-
-fn all_lower(text: &[u8]) -> bool
-    ensures { result ≡ list_all form.is_lower text.now }
-{
-    text.iter().all(|b| *b >= b'a' && *b <= b'z')
-}
-
-#[tactic(auto, using(std::proofs::lemmas::List::Sums::position_or_len_is))]
-fn dot_at(text: &[u8]) -> usize
-    ensures at { result ≡ position_or_len form.is_dot text.now }
-    ensures within { result ≤ length text.now }
-{
-    for i in 0..text.len() {
-        if text[i] == b'.' {
-            return i;
+        match self.text().split_once('#') {
+            Some((key, _)) => key,
+            None => self.text(),
         }
     }
-    text.len()
-}
 
-#[tactic(auto, unfolding(crate::specs::FirstForm::is_two_labels))]
-fn is_two_labels(text: &[u8]) -> bool
-    ensures { result ≡ form.is_two_labels text.now }
-{
-    let dot = dot_at(text);
-    if dot == text.len() {
-        return false;
+    /// What the URL leads to.
+    pub fn class(&self) -> UrlClass
+        ensures { result ≡ class_of self.now }
+    {
+        class_of_url(&self.url)
     }
-    is_label(&text[..dot]) && is_label(&text[dot + 1..])
-}
 
-fn has_scheme(text: &[u8]) -> bool
-    requires { 9 ≤ length text.now }
-    ensures { result ≡ bytes_eq (take 8 text.now) (codes "https://") }
-{
-    text[..8] == b"https://"[..]
-}
-
-fn has_last_slash(text: &[u8]) -> bool
-    requires { 9 ≤ length text.now }
-    ensures { result ≡ bytes_eq (drop (length text.now - 1) text.now) (codes "/") }
-{
-    text[text.len() - 1..] == b"/"[..]
-}
-
-#[tactic(auto, unfolding(crate::specs::FirstForm::is_first_form, crate::specs::FirstForm::host_between))]
-fn is_first_form(text: &[u8]) -> bool
-    ensures { result ≡ form.is_first_form text.now }
-{
-    let len = text.len();
-    if len < 9 {
-        return false;
+    /// An equal URL.
+    pub fn copy(&self, _alloc: Global) -> Result<Self, NoMemory>
+        ensures { IfOk result (λ copy. copy ≡ self.now) }
+    {
+        match self.url.clone() {
+            Ok(url) => Ok(PageUrl { url }),
+            Err(_) => Err(NoMemory),
+        }
     }
-    has_scheme(text) && has_last_slash(text) && is_two_labels(&text[8..len - 1])
-}
 
-fn host_of(alloc: Global, text: &str) -> Result<HostText, NoMemory>
-    requires { form.is_first_form text.now ≡ true }
-    ensures { IfOk result (λ host. host ≡ form.host_between text.now) }
-{
-    let host = &text[8..text.len() - 1];
-    Ok(HostText::new(String::from_str(alloc, host)?))
+    /// The scheme of a URL of class [`UrlClass::Web`].
+    pub(crate) fn scheme(&self) -> Scheme
+        requires { class_of self.now ≡ UrlClass.Web }
+        ensures { result ≡ (origins.tuple_of self.now).scheme }
+    {
+        scheme_of_url(&self.url)
+    }
+
+    /// The host of a URL of class [`UrlClass::Web`].
+    pub(crate) fn host(&self) -> &str
+        requires { class_of self.now ≡ UrlClass.Web }
+        ensures value { result.now ≡ (origins.tuple_of self.now).host }
+        ensures host { is_host result.now ≡ true }
+    {
+        let _valid = self.url.as_str();
+        host_of_url(&self.url)
+    }
+
+    /// The port of a URL of class [`UrlClass::Web`]: its own, or its scheme's.
+    pub(crate) fn port(&self) -> u16
+        requires { class_of self.now ≡ UrlClass.Web }
+        ensures { result ≡ (origins.tuple_of self.now).port }
+    {
+        self.url.port_or_known_default().unwrap_or(0)
+    }
 }

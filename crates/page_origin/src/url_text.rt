@@ -24,6 +24,14 @@ impl Model for UrlText {
 }
 
 impl UrlText {
+    /// The URL's text that this text is.
+    pub fn new(text: String) -> Self
+        requires { is_url_spelling (string_bytes text) ≡ true }
+        ensures { result ≡ string_bytes text }
+    {
+        UrlText { text }
+    }
+
     /// The text of a page's URL.
     pub fn of(alloc: Global, url: &PageUrl) -> Result<Self, NoMemory>
         ensures { IfOk result (λ text. text ≡ url.now) }

@@ -9,7 +9,6 @@ mod action;
 mod post;
 mod script;
 mod service;
-mod sites;
 
 pub use action::{Action, FrameRef, RawBody, RawMessage};
 pub use history_entry::{
@@ -17,13 +16,15 @@ pub use history_entry::{
     RequestText, Rule, ServiceName, Src, Target, equal_entries,
 };
 pub use page_origin::{
-    HostText, NoMemory, OpaqueOrigin, Origin, PageUrl, Scheme, Site, TupleOrigin, UrlRefusal,
-    UrlText, equal_origins, equal_sites, page_url, tuple_of,
+    HostText, NoMemory, OpaqueOrigin, Origin, OriginText, PageUrl, Scheme, Site, TupleOrigin,
+    UrlClass, UrlRefusal, UrlText, equal_origins, equal_sites, has_origin, join_url, origin_text,
+    page_url, same_origin, tuple_of,
 };
 pub use post::Posted;
+pub use public_suffix::{Rules, RulesRefusal};
 pub use script::{PageUrls, Resource, Resources, Script};
 pub use service::{Asked, ServiceAnswer};
-pub use sites::site_of_origin;
+pub use site_url::{same_site, site_of, site_of_origin};
 
 #[cfg(test)]
 mod tests;

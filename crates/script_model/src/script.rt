@@ -1,7 +1,10 @@
-ghost use Rattle.std.specs.Prelude.{◌≡◌, ◌≤◌, length, slice_get};
+ghost use Rattle.std.specs.Prelude.{◌≡◌, ◌≤◌, ◌<◌, [], slice_get, unwrap_or};
 ghost use Rattle.std.specs.Option.{option_copied};
+ghost use Rattle.page_origin.specs.PageUrls.{class_of};
+ghost use Rattle.script_model.specs.ScriptData.{starts};
 
-use page_origin::PageUrl;
+use page_origin::{PageUrl, UrlClass};
+use public_suffix::Rules;
 use std::marker::Model;
 
 /// A list of URLs of pages.
@@ -85,30 +88,40 @@ impl Resources {
     }
 }
 
-/// What a browser is to do: the pages that it opens, at most 64, and the resources that there are, at most 1,024.
+/// What a browser is to do: the pages that it opens, at most 64 and of class Web, the resources that there are, at most
+/// 1,024, and the suffix rules by which it tells sites apart.
 #[derive(Drop)]
 pub struct Script {
+    pub rules: Rules,
     pub start: PageUrls,
     pub resources: Resources,
 }
 
 impl Model for Script {
-    ghost use Rattle.std.specs.Prelude.{◌≤◌, length};
-    ghost use Rattle.script_model.specs.ScriptData.{ScriptData};
+    ghost use Rattle.script_model.specs.ScriptData.{ScriptData, IsScript};
 
     ghost Value = { ScriptData };
 
-    ghost view = { λ s. record { start = s.start; resources = s.resources } };
+    ghost view = { λ s. record { rules = s.rules; start = s.start; resources = s.resources } };
 
-    ghost invariant = { λ s. (length s.start ≤ 64) × (length s.resources ≤ 1024) };
+    ghost invariant = { λ s. IsScript s.start s.resources };
 }
 
 impl Script {
     /// How many start pages there are.
     pub fn start_count(&self) -> usize
-        ensures count { result ≡ length self.now.start }
-        ensures few { length self.now.start ≤ 64 }
+        ensures count { result ≡ starts self.now }
+        ensures few { starts self.now ≤ 64 }
     {
         self.start.as_slice().len()
+    }
+
+    /// The URL of a start page.
+    pub fn page(&self, page: u32) -> &PageUrl
+        requires { page < starts self.now }
+        ensures url { result.now ≡ unwrap_or (slice_get self.now.start page) [] }
+        ensures web { class_of result.now ≡ UrlClass.Web }
+    {
+        self.start.get(page as usize).unwrap()
     }
 }

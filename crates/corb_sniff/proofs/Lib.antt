@@ -1,0 +1,16 @@
+pub mod Words
+pub mod Blanks
+pub mod HtmlLemmas
+pub mod HtmlCase
+pub mod HtmlWays
+pub mod JsonWays
+pub mod PrefixWays
+pub mod XmlWays
+pub mod Longer
+pub mod OneMet
+pub mod MayBeXml
+pub mod MayBeJson
+pub mod MayBeHtml
+pub mod MayBeFound
+pub mod ReadLemmas
+pub mod Settled

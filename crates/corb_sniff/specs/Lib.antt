@@ -1,0 +1,16 @@
+pub mod Fronts
+pub mod HtmlGrammar
+pub mod XmlGrammar
+pub mod JsonGrammar
+pub mod ScriptPrefixes
+pub mod Confirmation
+pub mod Hope
+pub mod Answers
+pub mod Continuations
+pub mod TagParts
+pub mod HtmlSamples
+pub mod XmlSamples
+pub mod JsonSamples
+pub mod PrefixSamples
+pub mod Reading
+pub mod HasRead

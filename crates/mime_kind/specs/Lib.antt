@@ -1,0 +1,5 @@
+pub mod FieldText
+pub mod Texts
+pub mod MediaType
+pub mod Kinds
+pub mod Nosniff

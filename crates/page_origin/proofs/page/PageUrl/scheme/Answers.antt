@@ -1,0 +1,5 @@
+use Rattle.page_origin.proofs.PageUrlLemmas.{tuple_of-own}
+use Rattle.page_origin.proofs.page.PageUrl.scheme.Goals as goal
+
+pub returns : goal.returns
+returns c = rw (tuple_of-own c.self.inside.url c.args.self.now c.self.invariant.parses c.self.view_is) c.scheme_of_url.ensures

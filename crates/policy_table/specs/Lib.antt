@@ -1,0 +1,7 @@
+pub mod Histories
+pub mod Changes
+pub mod Known
+pub mod TableRule
+pub mod Views
+pub mod Steps
+pub mod Toys
