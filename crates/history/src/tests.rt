@@ -1,16 +1,21 @@
 ghost use Rattle.std.specs.Prelude.{◌≤◌, length};
 
 use crate::{History, may, nexts, run1, text_of};
-use script_model::{Entry, PageUrls, Resources, Rules, Script, page_url};
+use script_model::{Entry, PageUrls, Resources, Rules, Script, UrlClass, page_url};
 use std::alloc::Global;
 use std::test::Fail;
 
+#[tactic(auto, using(std::proofs::lemmas::List::Elements::All_append))]
 fn script(alloc: Global, pages: &[&str]) -> Result<Script, Fail>
     requires { length pages.now ≤ 64 }
 {
     let mut start = Vec::new(alloc);
     for page in pages {
-        start.push(page_url(alloc, page)?)?;
+        let url = page_url(alloc, page)?;
+        if url.class() != UrlClass::Web {
+            return Err(Fail::new("no page of the web"));
+        }
+        start.push(url)?;
     }
     Ok(Script {
         rules: Rules::new(alloc),

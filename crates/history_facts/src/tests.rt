@@ -1,24 +1,50 @@
+ghost use Rattle.std.specs.Prelude.{◌≡◌, ◌<◌, IfOk};
+ghost use Rattle.script_model.specs.ScriptData.{starts};
+
 use crate::{
     began, choice, commit_origin, had_order, is_locked, is_pending, live_count, lock_of, may_start,
     opened, order_of, started, url_of, was_answered, was_ordered,
 };
 use script_model::{
-    Entry, Origin, PageUrls, RawUrl, Reply, Resources, Rules, Script, UrlText, page_url,
-    site_of_origin, tuple_of,
+    Entry, Origin, PageUrls, RawUrl, Reply, Resources, Rules, Script, UrlClass, UrlText, page_url,
+    site_of_origin,
 };
 use std::alloc::Global;
 use std::test::Fail;
 
-fn script(alloc: Global) -> Result<Script, Fail> {
+fn script(alloc: Global) -> Result<Script, Fail>
+    ensures { IfOk result (λ script. starts script ≡ 1) }
+{
+    let page = page_url(alloc, "https://a.com/")?;
+    if page.class() != UrlClass::Web {
+        return Err(Fail::new("no page of the web"));
+    }
     Ok(Script {
         rules: Rules::new(alloc),
-        start: PageUrls::from_vec(vec![in alloc; page_url(alloc, "https://a.com/")?]?),
+        start: PageUrls::from_vec(vec![in alloc; page]?),
         resources: Resources::from_vec(Vec::new(alloc)),
     })
 }
 
+fn order(alloc: Global, script: &Script) -> Result<Entry, Fail>
+    requires { 0 < starts script.now }
+{
+    let origin = commit_origin(alloc, script, 0)?;
+    let site = site_of_origin(alloc, &script.rules, &origin)?;
+    let url = UrlText::of(alloc, script.page(0))?;
+    Ok(Entry::Order(0, 0, site, origin, url))
+}
+
+fn commit(alloc: Global, script: &Script) -> Result<Entry, Fail>
+    requires { 0 < starts script.now }
+{
+    let origin = commit_origin(alloc, script, 0)?;
+    let url = RawUrl::of(alloc, script.page(0).text())?;
+    Ok(Entry::Commit(0, 0, origin, url, Reply::Ok))
+}
+
 #[test]
-fn facts_of_a_page_that_commits(rt: HostRuntime) -> Result<(), Fail> {
+fn an_opened_page_is_pending(rt: HostRuntime) -> Result<(), Fail> {
     let alloc = rt.alloc();
     let script = script(alloc)?;
     let mut entries = Vec::new(alloc);
@@ -30,12 +56,14 @@ fn facts_of_a_page_that_commits(rt: HostRuntime) -> Result<(), Fail> {
     assert!(rt; !began(&script, &entries, 1));
     assert!(rt; may_start(&entries));
     assert_eq!(rt; choice(&entries), Some(0));
-    let url = page_url(alloc, "https://a.com/")?;
-    let origin = Origin::Tuple(tuple_of(alloc, &url)?);
-    let site = site_of_origin(alloc, &origin)?;
-    let raw = RawUrl::of(alloc, url.text())?;
-    let commit = Entry::Commit(0, 0, origin.copy(alloc)?, raw, Reply::Ok);
-    entries.push(Entry::Order(0, 0, site, origin, UrlText::of(alloc, &url)?))?;
+    Ok(())
+}
+
+#[test]
+fn an_order_locks_its_process(rt: HostRuntime) -> Result<(), Fail> {
+    let alloc = rt.alloc();
+    let script = script(alloc)?;
+    let entries = vec![in alloc; Entry::Opened(0), order(alloc, &script)?]?;
     assert!(rt; was_ordered(&entries, 0) && !is_pending(&script, &entries, 0));
     assert!(rt; had_order(&entries, 0, 0) && !had_order(&entries, 1, 0));
     assert_eq!(rt;
@@ -48,8 +76,16 @@ fn facts_of_a_page_that_commits(rt: HostRuntime) -> Result<(), Fail> {
     );
     assert!(rt; is_locked(&entries, 0) && !is_locked(&entries, 1));
     assert_eq!(rt; (started(&entries), live_count(&entries)), (1, 1));
+    Ok(())
+}
+
+#[test]
+fn a_commit_answers_its_order(rt: HostRuntime) -> Result<(), Fail> {
+    let alloc = rt.alloc();
+    let script = script(alloc)?;
+    let mut entries = vec![in alloc; Entry::Opened(0), order(alloc, &script)?]?;
     assert!(rt; !was_answered(&entries, 0));
-    entries.push(commit)?;
+    entries.push(commit(alloc, &script)?)?;
     assert!(rt; was_answered(&entries, 0));
     Ok(())
 }
