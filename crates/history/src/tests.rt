@@ -1,25 +1,45 @@
-ghost use Rattle.std.specs.Prelude.{◌≤◌, length};
+ghost use Rattle.std.specs.Prelude.{◌≡◌, ◌≤◌, All, IfOk, length};
+ghost use Rattle.page_origin.specs.PageUrls.{class_of};
 
 use crate::{History, may, nexts, run1, text_of};
-use script_model::{Entry, PageUrls, Resources, Rules, Script, UrlClass, page_url};
+use script_model::{Entry, PageUrl, PageUrls, Resources, Rules, Script, UrlClass, page_url};
 use std::alloc::Global;
 use std::test::Fail;
 
-#[tactic(auto, using(std::proofs::lemmas::List::Elements::All_append))]
-fn script(alloc: Global, pages: &[&str]) -> Result<Script, Fail>
-    requires { length pages.now ≤ 64 }
+fn web_page(alloc: Global, text: &str) -> Result<PageUrl, Fail>
+    ensures { IfOk result (λ url. class_of url ≡ UrlClass.Web) }
+{
+    let url = page_url(alloc, text)?;
+    if url.class() != UrlClass::Web {
+        return Err(Fail::new("no page of the web"));
+    }
+    Ok(url)
+}
+
+fn start_pages(alloc: Global, pages: &[&str]) -> Result<PageUrls, Fail>
+    ensures few { IfOk result (λ urls. length urls ≤ 2) }
+    ensures web { IfOk result (All (λ url. class_of url ≡ UrlClass.Web)) }
 {
     let mut start = Vec::new(alloc);
-    for page in pages {
-        let url = page_url(alloc, page)?;
-        if url.class() != UrlClass::Web {
-            return Err(Fail::new("no page of the web"));
+    match pages {
+        [] => Ok(PageUrls::from_vec(start)),
+        [page] => {
+            start.push(web_page(alloc, page)?)?;
+            Ok(PageUrls::from_vec(start))
         }
-        start.push(url)?;
+        [first, second] => {
+            start.push(web_page(alloc, first)?)?;
+            start.push(web_page(alloc, second)?)?;
+            Ok(PageUrls::from_vec(start))
+        }
+        _ => Err(Fail::new("more than two pages")),
     }
+}
+
+fn script(alloc: Global, pages: &[&str]) -> Result<Script, Fail> {
     Ok(Script {
         rules: Rules::new(alloc),
-        start: PageUrls::from_vec(start),
+        start: start_pages(alloc, pages)?,
         resources: Resources::from_vec(Vec::new(alloc)),
     })
 }
