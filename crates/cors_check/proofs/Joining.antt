@@ -1,5 +1,5 @@
 -- The values of a header: whether there is one, and the text that they make when they are joined.
-use Rattle.std.proofs.Common.{◌≡◌, ◌≢◌, ℕ, ◌==◌, List, [], ◌∷◌, ◌++◌, refl, ap, ◌∙◌, sym, ⊎_elim, eq-eqb, arith, Bool, true, false, length, nat_lt, is_some, Option, Some, None, MatchOption, Bor}
+use Rattle.std.proofs.Common.{◌≡◌, ◌≢◌, ℕ, List, [], ◌∷◌, ◌++◌, refl, ap, ◌∙◌, sym, ⊎_elim, eq-eqb, arith, false, length, nat_lt, is_some, Option, Some, None, MatchOption, Bor}
 use Rattle.std.specs.Prelude.{slice_get, bytes_eq, codes}
 use Rattle.std.proofs.lemmas.List.{append-nil, append_assoc, append_cancel_left}
 use Rattle.std.proofs.lemmas.Bool.{cases_Bool}

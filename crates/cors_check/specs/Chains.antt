@@ -1,5 +1,5 @@
--- The chain of a request's URLs against the request's origin, after the Fetch Standard: whether it stays in that origin,
--- and the text of the origin that a response must name.
+-- The chain of a request's URLs against the request's origin: whether it stays in that origin, and the text of the origin
+-- that a response must name, after "redirect-taint" and "serializing a request origin" of the Fetch Standard.
 use Rattle.std.specs.Prelude.{◌≡◌, ℕ, Bool, false, not, ◌&&◌, ◌||◌, List, [], ◌∷◌, codes, if◌then◌else◌, All}
 use Rattle.std.specs.List.{list_all}
 use Rattle.page_origin.specs.declared.origin.Origin.{Origin}
@@ -15,11 +15,11 @@ IsWebChain chain = All (λ url. class_of url ≡ Web) chain
 abbrev pub is_same_origin_chain : Origin → List (List ℕ) → Bool
 is_same_origin_chain origin chain = list_all (λ url. has_origin url origin) chain
 
--- the first URL is not of the request's origin, and the second is of another origin than the first
+-- going on from one URL to another taints a chain: the one is not of the request's origin, the other not of the one's
 abbrev pub taints : Origin → List ℕ → List ℕ → Bool
 taints origin a b = not (has_origin a origin) && not (equal_tuples (tuple_of a) (tuple_of b))
 
--- the chain has gone from such a first URL to such a second
+-- some URL of the chain and the next one taint it so
 abbrev pub is_tainted : Origin → List (List ℕ) → Bool
 is_tainted origin [] = false
 is_tainted origin (a ∷ []) = false

@@ -1,5 +1,5 @@
--- The CORS check of the Fetch Standard, without credentials. It gets the header's value, which joins those of all headers
--- of that name.
+-- The CORS check of the Fetch Standard, without credentials, and "get" of a header list, which joins the values of all
+-- headers of one name.
 use Rattle.std.specs.Prelude.{ℕ, Bool, ◌&&◌, ◌||◌, nat_lt, List, [], ◌∷◌, ◌++◌, length, codes, bytes_eq, if◌then◌else◌}
 use Rattle.http_header.specs.HeaderMap.{Entries, get_all}
 use Rattle.page_origin.specs.declared.origin.Origin.{Origin}

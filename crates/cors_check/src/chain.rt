@@ -28,19 +28,17 @@ fn taints(alloc: Global, origin: &Origin, from: &PageUrl, to: &PageUrl) -> Resul
     Ok(!has_origin(to, &left))
 }
 
-/// Whether a chain has gone from a URL of another origin to a URL of a third.
+/// Whether a chain has gone from a URL that is not of the request's origin to a URL of another origin than that URL.
 pub fn is_tainted(alloc: Global, origin: &Origin, chain: &[PageUrl]) -> Result<bool, NoMemory>
     requires { IsWebChain chain.now }
     ensures { IfOk result (λ b. b ≡ is_tainted origin.now chain.now) }
 {
     let mut rest = chain;
-    while let [from, more @ ..] = rest {
-        if let [to, ..] = more {
-            if taints(alloc, origin, from, to)? {
-                return Ok(true);
-            }
+    while let [from, to, ..] = rest {
+        if taints(alloc, origin, from, to)? {
+            return Ok(true);
         }
-        rest = more;
+        rest = &rest[1..];
     }
     Ok(false)
 }
