@@ -6,16 +6,11 @@
 set -eu
 list=${1:-/usr/share/publicsuffix/public_suffix_list.dat}
 here=$(cd "$(dirname "$0")/.." && pwd)
-if [ ! -r "$list" ] || ! command -v psl >/dev/null 2>&1; then
-    echo "skipped: no Public Suffix List, or no psl tool"
+if ! command -v psl >/dev/null 2>&1; then
+    echo "skipped: no psl tool"
     exit 0
 fi
-work=$(mktemp -d)
-trap 'rm -rf "$work"' EXIT
-lookup=$here/crates/suffix_lookup/out/suffix_lookup
-if [ ! -x "$lookup" ]; then
-    (cd "$here/crates/suffix_lookup" && rt run -- index data/rules.dat <stdin >"$work/build.log") || true
-fi
+. "$here/tests/suffix-list-setup.sh"
 LC_ALL=C awk '
     /^\/\// { next }
     { sub(/[ \t\r].*/, "") }
