@@ -25,3 +25,12 @@ fresh_source bytes step fails = record { left = bytes; step = step; fails = fail
 -- an empty sink before its first call
 abbrev pub fresh_sink : ℕ → ℕ → List ℕ → MemorySink
 fresh_sink room step fails = record { written = []; room = room; step = step; fails = fails; calls = 0; faults = 0 }
+
+-- a source that never fails: the bytes still to come, the most that a call hands over
+pub record FaultlessSource : Type 0 where
+  pub left : List ℕ
+  pub step : ℕ
+
+-- a sink that never fails and keeps nothing: the most that a call takes
+pub record FaultlessSink : Type 0 where
+  pub step : ℕ

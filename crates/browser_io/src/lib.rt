@@ -3,14 +3,17 @@
 //! A [`Source`] and a [`Sink`] are byte streams after `std::io`'s `Read` and `Write`, with what
 //! those leave open said: a call that fails moves no byte, and shows in a count of faults that
 //! never falls. [`MemSource`] and [`MemSink`] are streams in memory that fail where they are told
-//! to; [`InputSource`] and [`OutputSink`] take any reader or writer. [`read_all`] and
+//! to, and [`NeverSource`] and [`NeverSink`] never fail; [`InputSource`] and [`OutputSink`] take any reader or writer. [`read_all`] and
 //! [`write_all`] move everything, and say exactly what was moved when they stop early.
 #![tactic(auto)]
 
+mod cursor;
 mod failed;
 mod input_source;
 mod memory_sink;
 mod memory_source;
+mod never_sink;
+mod never_source;
 mod no_memory;
 mod output_sink;
 mod reading;
@@ -24,6 +27,8 @@ pub use failed::Failed;
 pub use input_source::InputSource;
 pub use memory_sink::MemSink;
 pub use memory_source::MemSource;
+pub use never_sink::NeverSink;
+pub use never_source::NeverSource;
 pub use no_memory::NoMemory;
 pub use output_sink::OutputSink;
 pub use reading::{ReadStop, read_all};

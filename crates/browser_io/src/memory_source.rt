@@ -3,6 +3,7 @@
 ghost use Rattle.std.specs.Prelude.{◌≡◌, ◌≤◌, ◌<◌, ◌↔◌, ◌++◌, [], length, take, min, Some, IfOk, OnErr, IsErr, Contains};
 ghost use Rattle.browser_io.specs.Faults.{counted_on, count_after};
 
+use crate::cursor::Cursor;
 use crate::failed::Failed;
 use crate::source::Source;
 use std::marker::Model;
@@ -12,8 +13,7 @@ use std::marker::Model;
 /// A read fails exactly where its number, counted from 0, stands in the plan.
 #[derive(Drop)]
 pub struct MemSource {
-    bytes: Vec<u8>,
-    at: usize,
+    cursor: Cursor,
     step: usize,
     fails: Vec<u64>,
     calls: u64,
@@ -21,20 +21,20 @@ pub struct MemSource {
 }
 
 impl Model for MemSource {
-    ghost use Rattle.std.specs.Prelude.{◌≤◌, ◌<◌, drop, vec_len};
+    ghost use Rattle.std.specs.Prelude.{◌<◌};
     ghost use Rattle.browser_io.specs.Memory.{MemorySource};
 
     ghost Value = { MemorySource };
 
     ghost view = { λ s. record {
-      left = drop s.at s.bytes.items;
+      left = s.cursor;
       step = s.step;
       fails = s.fails.items;
       calls = s.calls;
       faults = s.faults;
     } };
 
-    ghost invariant = { λ s. (s.at ≤ vec_len s.bytes) × (0 < s.step) };
+    ghost invariant = { λ s. 0 < s.step };
 }
 
 impl MemSource {
@@ -47,24 +47,13 @@ impl MemSource {
         ensures { result ≡ fresh_source bytes.items step fails.items }
     {
         MemSource {
-            bytes,
-            at: 0,
+            cursor: Cursor::new(bytes),
             step,
             fails,
             calls: 0,
             faults: 0,
         }
     }
-}
-
-// Copies as many first bytes as `step` and both slices allow, and says how many.
-fn hand_over(rest: &[u8], buf: &mut [u8], step: usize) -> usize
-    ensures count { result ≡ min step (min (length buf.new) (length rest.now)) }
-    ensures bytes { take result buf.new ≡ take result rest.now }
-{
-    let count = step.min(buf.len().min(rest.len()));
-    buf[..count].copy_from_slice(&rest[..count]);
-    count
 }
 
 impl Source for MemSource {
@@ -93,9 +82,6 @@ impl Source for MemSource {
             self.faults = self.faults.saturating_add(1);
             return Err(Failed);
         }
-        let (_, rest) = self.bytes.as_slice().split_at(self.at);
-        let count = hand_over(rest, buf, self.step);
-        self.at += count;
-        Ok(count)
+        Ok(self.cursor.hand_over(buf, self.step))
     }
 }

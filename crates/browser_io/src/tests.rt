@@ -1,7 +1,7 @@
 use crate::ReadStop::{Fault, NoMemory, TooLarge};
 use crate::{
-    Failed, InputSource, MemSink, MemSource, OutputSink, ReadStop, Sink, Source, WriteStop,
-    read_all, write_all,
+    Failed, InputSource, MemSink, MemSource, NeverSink, NeverSource, OutputSink, ReadStop, Sink,
+    Source, WriteStop, read_all, write_all,
 };
 use std::io;
 use std::io::{Read, Write};
@@ -34,6 +34,30 @@ fn reads_to_the_end_or_says_why_not(rt: HostRuntime) -> Result<(), Fail> {
             (Err(stop), Err(reason)) => assert_eq!(rt; *stop, reason, "at {name}"),
             _ => assert!(rt; false, "another answer at {name}"),
         }
+    }
+    Ok(())
+}
+
+#[test]
+fn a_source_that_never_fails_is_read_to_its_end(rt: HostRuntime) -> Result<(), Fail> {
+    for step in [1_usize, 8, 4096] {
+        let bytes = Vec::from_slice(rt.alloc(), TEXT)?;
+        let mut source = NeverSource::new(bytes, step.max(1));
+        let all = read_all(rt.alloc(), &mut source, 100)?;
+        assert_eq!(rt; all.as_slice(), TEXT, "in steps of {step}");
+    }
+    let bytes = Vec::from_slice(rt.alloc(), TEXT)?;
+    let mut source = NeverSource::new(bytes, 8);
+    assert_eq!(rt; read_all(rt.alloc(), &mut source, 18), Err(TooLarge));
+    Ok(())
+}
+
+#[test]
+fn a_sink_that_never_fails_takes_all(rt: HostRuntime) -> Result<(), Fail> {
+    for step in [1_usize, 8, 4096] {
+        let mut sink = NeverSink::new(step.max(1));
+        assert_eq!(rt; write_all(&mut sink, TEXT), Ok(()), "in steps of {step}");
+        assert_eq!(rt; sink.write(TEXT), Ok(step.min(19)), "in steps of {step}");
     }
     Ok(())
 }
