@@ -7,6 +7,7 @@ use Rattle.page_origin.specs.declared.origin.Origin.TheVariants.{Opaque, Tuple}
 use Rattle.history_entry.specs.RuleText.{rule_text}
 use Rattle.history_entry.specs.declared.body.Body.{Body}
 use Rattle.history_entry.specs.declared.body.Body.TheVariants.{AddFrame, Ask, DidCommit, Fetch, Navigate, OpenPage, Post, RemoveFrame}
+use Rattle.history_entry.specs.declared.body.Message.{Message}
 use Rattle.history_entry.specs.declared.body.Mode.{Mode}
 use Rattle.history_entry.specs.declared.body.Mode.TheVariants.{Cors as InCors, NoCors}
 use Rattle.history_entry.specs.declared.body.Src.{Src}
@@ -74,6 +75,10 @@ body_text (Post frame target source text) =
     codes "post" ++ number frame ++ field (target_text target) ++ field (origin_line source) ++ field (hex_text text)
 body_text (Ask service origin request) = codes "ask" ++ field (hex_text service) ++ field (origin_line origin) ++ field (hex_text request)
 body_text (DidCommit nav url origin) = codes "commit" ++ number nav ++ field (origin_line origin) ++ field (hex_text url)
+
+-- a message by itself: the number of its document, and its body
+unfoldable pub message_text : Message → List ℕ
+message_text message = decimal message.document ++ field (body_text message.body)
 
 -- a reply
 unfoldable pub reply_text : Reply → List ℕ

@@ -1,11 +1,11 @@
 //! The bodies of messages.
 
-ghost use Rattle.std.specs.Prelude.{◌≡◌, ◌++◌, OnOk};
+ghost use Rattle.std.specs.Prelude.{◌≡◌, ◌++◌, IfOk, OnOk};
 ghost use Rattle.entry_text.specs.Lines as lines;
 
-use crate::fields::{put, put_hex, put_number, put_text};
+use crate::fields::{put, put_decimal, put_hex, put_number, put_text};
 use crate::origins::put_origin;
-use history_entry::{Body, Mode, Src, Target};
+use history_entry::{Body, Message, Mode, Src, Target};
 use page_origin::NoMemory;
 use std::alloc::Global;
 
@@ -119,4 +119,15 @@ pub fn put_body(alloc: Global, out: &mut Vec<u8>, body: &Body) -> Result<(), NoM
             put_hex(alloc, out, url.as_str().as_bytes())
         }
     }
+}
+
+/// The text of a message: the number of its document, a space, and its body.
+#[tactic(auto, unfolding(crate::specs::Lines::message_text))]
+pub fn message_text(alloc: Global, message: &Message) -> Result<Vec<u8>, NoMemory>
+    ensures { IfOk result (λ text. text.items ≡ lines.message_text message.now) }
+{
+    let mut text = Vec::new(alloc);
+    put_decimal(alloc, &mut text, message.document)?;
+    put_body(alloc, &mut text, &message.body)?;
+    Ok(text)
 }

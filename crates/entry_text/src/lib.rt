@@ -10,7 +10,9 @@ mod lines;
 mod origins;
 mod replies;
 
-pub use lines::put_line;
+pub use bodies::message_text;
+pub use lines::{put_entry, put_line};
+pub use replies::reply_text;
 
 #[cfg(test)]
 mod tests;

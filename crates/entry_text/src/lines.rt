@@ -121,8 +121,9 @@ fn put_commit(
     put_reply(alloc, out, reply)
 }
 
+/// Appends the line of an entry, without its line feed.
 #[tactic(auto, unfolding(crate::specs::Lines::entry_text))]
-fn put_entry(alloc: Global, out: &mut Vec<u8>, entry: &Entry) -> Result<(), NoMemory>
+pub fn put_entry(alloc: Global, out: &mut Vec<u8>, entry: &Entry) -> Result<(), NoMemory>
     ensures { OnOk result (out.new.items ≡ out.old.items ++ lines.entry_text entry.now) }
 {
     match entry {

@@ -1,6 +1,6 @@
 //! Replies.
 
-ghost use Rattle.std.specs.Prelude.{◌≡◌, ◌++◌, OnOk, codes};
+ghost use Rattle.std.specs.Prelude.{◌≡◌, ◌++◌, IfOk, OnOk, codes};
 ghost use Rattle.entry_text.specs.Lines as lines;
 
 use crate::fields::{put, put_hex, put_rule};
@@ -8,28 +8,44 @@ use history_entry::Reply;
 use page_origin::NoMemory;
 use std::alloc::Global;
 
-/// Appends an arrow and a reply.
 #[tactic(auto, unfolding(crate::specs::Lines::reply_text))]
-pub fn put_reply(alloc: Global, out: &mut Vec<u8>, reply: &Reply) -> Result<(), NoMemory>
-    ensures { OnOk result (out.new.items ≡ out.old.items ++ (codes " => " ++ lines.reply_text reply.now)) }
+fn put_reply_text(alloc: Global, out: &mut Vec<u8>, reply: &Reply) -> Result<(), NoMemory>
+    ensures { OnOk result (out.new.items ≡ out.old.items ++ lines.reply_text reply.now) }
 {
     match reply {
-        Reply::Ok => put(out, b" => ok"),
+        Reply::Ok => put(out, b"ok"),
         Reply::Answer(text) => {
-            put(out, b" => answer")?;
+            put(out, b"answer")?;
             put_hex(alloc, out, text.as_str().as_bytes())
         }
         Reply::Deny(rule) => {
-            put(out, b" => deny")?;
+            put(out, b"deny")?;
             put_rule(out, *rule)
         }
         Reply::Drop(rule) => {
-            put(out, b" => drop")?;
+            put(out, b"drop")?;
             put_rule(out, *rule)
         }
         Reply::Kill(rule) => {
-            put(out, b" => kill")?;
+            put(out, b"kill")?;
             put_rule(out, *rule)
         }
     }
+}
+
+/// Appends an arrow and a reply.
+pub fn put_reply(alloc: Global, out: &mut Vec<u8>, reply: &Reply) -> Result<(), NoMemory>
+    ensures { OnOk result (out.new.items ≡ out.old.items ++ (codes " => " ++ lines.reply_text reply.now)) }
+{
+    put(out, b" => ")?;
+    put_reply_text(alloc, out, reply)
+}
+
+/// The text of a reply.
+pub fn reply_text(alloc: Global, reply: &Reply) -> Result<Vec<u8>, NoMemory>
+    ensures { IfOk result (λ text. text.items ≡ lines.reply_text reply.now) }
+{
+    let mut text = Vec::new(alloc);
+    put_reply_text(alloc, &mut text, reply)?;
+    Ok(text)
 }

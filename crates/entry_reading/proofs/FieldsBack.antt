@@ -1,0 +1,169 @@
+-- Each field is read back from its spelling.
+use Rattle.std.proofs.Common.{◌≡◌, ℕ, ◌+◌, ◌-◌, ◌*◌, ◌<◌, ◌≤◌, ◌^◌, ◌/◌, ◌%◌, Bool, true, false, ◌&&◌, ◌==◌, List, [], ◌∷◌, ◌++◌, length, get_or, drop, Some, refl, ap, ◌∙◌, arith, rules, ⊎_elim, suc, zero}
+use Rattle.std.specs.Prelude.{Option, IsUtf8, bytes_eq, codes, decimal, nat_lt}
+use Rattle.std.specs.List.{list_all}
+use Rattle.std.specs.Char.{is_ascii_digit}
+use Rattle.std.specs.Str.{all_ascii_digits}
+use Rattle.std.proofs.lemmas.Bool.{cases_eq, and_parts, ne_eqb, both_ways}
+use Rattle.std.proofs.lemmas.Bool.Decides.{nat_tests}
+use Rattle.std.proofs.lemmas.Str.{is_utf8-from_IsUtf8}
+use Rattle.std.proofs.lemmas.Str.Parse.{IsNumeralModel, numerals_by_fold, tells_all_ascii_digits}
+use Rattle.std.proofs.lemmas.Fmt.{digits_decimal, digits_value-decimal, decimal_nonempty}
+use Rattle.std.proofs.lemmas.List.Folds.{list_all-append}
+use Rattle.hex.specs.Hex.{IsBytes, encode_lower, encode_with, lower_digits}
+use Rattle.hex.proofs.HexLemmas.{decode_of-encode_lower}
+use lib.Utf8.{encode, encodes, scalar, scalars}
+use Rattle.page_origin.specs.UrlText.{is_url_spelling}
+use Rattle.entry_text.specs.Lines.{hex_text}
+use Rattle.entry_reading.specs.Entries.{IsNumber}
+use Rattle.entry_reading.specs.Fields.{before, behind, bytes_of, field_by, number_from, number_of, piece_of, text_of, url_of}
+use Rattle.entry_reading.proofs.Visible.{are_visible, is_visible, list_all-weaker}
+
+-- ---- up to a mark
+
+-- a text is over, or goes on with the mark
+abbrev pub goes_on : ℕ → List ℕ → Bool
+goes_on mark [] = true
+goes_on mark (b ∷ text) = b == mark
+
+pub differs : (mark : ℕ) (p : ℕ → Bool) (b : ℕ) → p mark ≡ false → p b ≡ true → (b == mark) ≡ false
+differs mark p b other is = ne_eqb b mark (λ same. both_ways (p mark) other (rw same at is))
+
+pub before_mark : (mark : ℕ) (p : ℕ → Bool) (text rest : List ℕ) → p mark ≡ false → list_all p text ≡ true → goes_on mark rest ≡ true → before mark (text ++ rest) ≡ text
+before_mark mark p [] [] other all on = refl
+before_mark mark p [] (b ∷ rest) other all on = rw on refl
+before_mark mark p (b ∷ text) rest other all on =
+    let parts = and_parts (p b) (list_all p text) all in
+    rw (differs mark p b other parts.0) (ap (λ t. b ∷ t) (before_mark mark p text rest other parts.1 on))
+
+pub behind_mark : (mark : ℕ) (p : ℕ → Bool) (text rest : List ℕ) → p mark ≡ false → list_all p text ≡ true → goes_on mark rest ≡ true → behind mark (text ++ rest) ≡ drop 1 rest
+behind_mark mark p [] [] other all on = refl
+behind_mark mark p [] (b ∷ rest) other all on = rw on refl
+behind_mark mark p (b ∷ text) rest other all on =
+    let parts = and_parts (p b) (list_all p text) all in
+    rw (differs mark p b other parts.0) (behind_mark mark p text rest other parts.1 on)
+
+-- a field of visible bytes is read by itself
+pub field_back : {A : Type 0} (read : List ℕ → Option A) (text rest : List ℕ) (x : A) → are_visible text ≡ true → goes_on 32 rest ≡ true → read text ≡ Some x → field_by read (text ++ rest) ≡ Some (x, drop 1 rest)
+field_back read text rest x visible on is =
+    rw (before_mark 32 is_visible text rest refl visible on, behind_mark 32 is_visible text rest refl visible on, is) refl
+
+-- ---- numbers
+
+-- the number that digits write after a number
+abbrev pub read_on : ℕ → List ℕ → ℕ
+read_on n [] = n
+read_on n (c ∷ cs) = read_on (n * 10 + (c - 48)) cs
+
+own : IsNumeralModel (λ ds. all_ascii_digits ds ≡ true) (read_on 0)
+own = numerals_by_fold _ tells_all_ascii_digits read_on (search rules)
+
+read_on_grows : (n : ℕ) (ds : List ℕ) → n ≤ read_on n ds
+read_on_grows n [] = omega arith
+read_on_grows n (c ∷ cs) = omega (arith, read_on_grows (n * 10 + (c - 48)) cs)
+
+number_from_digits : (n : ℕ) (ds : List ℕ) → all_ascii_digits ds ≡ true → read_on n ds < 2 ^ 32 → number_from n ds ≡ Some (read_on n ds)
+number_from_digits n [] digits small = refl
+number_from_digits n (c ∷ cs) digits small =
+    let parts = and_parts (is_ascii_digit c) (all_ascii_digits cs) digits in
+    let fits : n * 10 + (c - 48) < 2 ^ 32 = omega (arith, read_on_grows (n * 10 + (c - 48)) cs) in
+    let test : nat_lt (n * 10 + (c - 48)) (2 ^ 32) ≡ true = grind (arith, nat_tests) in
+    rw (parts.0, test) (number_from_digits (n * 10 + (c - 48)) cs parts.1 small)
+
+pub number_of-decimal : (n : ℕ) → IsNumber n → number_of (decimal n) ≡ Some n
+unfolding number_of
+number_of-decimal n small =
+    let wide : n < 2 ^ 64 = omega arith in
+    let value = digits_value-decimal own n wide in
+    let reads = number_from_digits 0 (decimal n) (digits_decimal own n wide) (rw value small) in
+    let some : (length (decimal n) == 0) ≡ false = ne_eqb (length (decimal n)) 0 (omega (arith, decimal_nonempty n wide)) in
+    rw some (reads ∙ ap Some value)
+
+all_digits : (ds : List ℕ) → all_ascii_digits ds ≡ true → list_all is_ascii_digit ds ≡ true
+all_digits [] digits = refl
+all_digits (c ∷ cs) digits =
+    let parts = and_parts (is_ascii_digit c) (all_ascii_digits cs) digits in
+    rw (parts.0, all_digits cs parts.1) refl
+
+pub decimal_digits : (n : ℕ) → IsNumber n → list_all is_ascii_digit (decimal n) ≡ true
+decimal_digits n small = all_digits (decimal n) (digits_decimal own n (omega arith))
+
+digit_visible : (b : ℕ) → is_ascii_digit b ≡ true → is_visible b ≡ true
+digit_visible b is = grind (arith, nat_tests)
+
+pub decimal_visible : (n : ℕ) → IsNumber n → are_visible (decimal n) ≡ true
+decimal_visible n small = list_all-weaker is_ascii_digit is_visible digit_visible (decimal n) (decimal_digits n small)
+
+-- ---- hexadecimal
+
+abbrev digits_visible : ℕ → Bool
+digits_visible zero = true
+digits_visible (suc n) = is_visible (get_or lower_digits n 0) && digits_visible n
+
+checked : (n : ℕ) → digits_visible n ≡ true → (d : ℕ) → d < n → is_visible (get_or lower_digits d 0) ≡ true
+checked zero all d small = absurd (omega arith)
+checked (suc n) all d small =
+    let parts = and_parts (is_visible (get_or lower_digits n 0)) (digits_visible n) all in
+    ⊎_elim (λ same. rw same parts.0) (λ other. checked n parts.1 d (omega arith)) (cases_eq d n)
+
+encoded_visible : (bytes : List ℕ) → IsBytes bytes → are_visible (encode_lower bytes) ≡ true
+unfolding encode_with
+encoded_visible [] are = refl
+encoded_visible (b ∷ bytes) are =
+    let byte : b < 256 = are 0 in
+    rw (checked 16 refl (b / 16) (omega arith), checked 16 refl (b % 16) (omega arith), encoded_visible bytes (λ i. are (suc i))) refl
+
+pub hex_visible : (bytes : List ℕ) → IsBytes bytes → are_visible (hex_text bytes) ≡ true
+unfolding hex_text
+hex_visible [] are = refl
+hex_visible (b ∷ bytes) are = encoded_visible (b ∷ bytes) are
+
+and_false : (x : Bool) → (x && false) ≡ false
+and_false true = refl
+and_false false = refl
+
+no_dash : (b : ℕ) (bytes : List ℕ) → bytes_eq (encode_lower (b ∷ bytes)) (codes "-") ≡ false
+unfolding encode_with
+no_dash b bytes = and_false (get_or lower_digits (b / 16) 0 == 45)
+
+pub bytes_back : (bytes : List ℕ) → IsBytes bytes → bytes_of (hex_text bytes) ≡ Some bytes
+unfolding bytes_of hex_text
+bytes_back [] are = refl
+bytes_back (b ∷ bytes) are = rw (no_dash b bytes) (rw (decode_of-encode_lower (b ∷ bytes) are) refl)
+
+pub piece_back : (bytes : List ℕ) → IsBytes bytes → 0 < length bytes → piece_of (hex_text bytes) ≡ Some bytes
+unfolding piece_of
+piece_back bytes are some =
+    let one : (length bytes == 0) ≡ false = ne_eqb (length bytes) 0 (omega arith) in
+    rw (bytes_back bytes are) (rw one refl)
+
+-- ---- texts of UTF-8
+
+abbrev is_byte : ℕ → Bool
+is_byte b = nat_lt b 256
+
+encode_bytes : (c : ℕ) → scalar c ≡ true → list_all is_byte (encode c) ≡ true
+unfolding encode
+encode_bytes c is = grind (arith, nat_tests)
+
+encodes_bytes : (cs : List ℕ) → scalars cs ≡ true → list_all is_byte (encodes cs) ≡ true
+encodes_bytes [] are = refl
+encodes_bytes (c ∷ cs) are =
+    let parts = and_parts (scalar c) (scalars cs) are in
+    list_all-append is_byte (encode c) (encodes cs) ∙ rw (encode_bytes c parts.0, encodes_bytes cs parts.1) refl
+
+are_bytes : (text : List ℕ) → list_all is_byte text ≡ true → IsBytes text
+are_bytes [] all i = omega arith
+are_bytes (b ∷ text) all zero = let test = (and_parts (is_byte b) (list_all is_byte text) all).0 in grind (arith, nat_tests)
+are_bytes (b ∷ text) all (suc i) = are_bytes text (and_parts (is_byte b) (list_all is_byte text) all).1 i
+
+pub text_bytes : (text : List ℕ) → IsUtf8 text → IsBytes text
+text_bytes text valid = are_bytes text (rw valid.1.1 at (encodes_bytes valid.0 valid.1.0))
+
+pub text_back : (text : List ℕ) → IsUtf8 text → text_of (hex_text text) ≡ Some text
+unfolding text_of
+text_back text valid = rw (bytes_back text (text_bytes text valid)) (rw (is_utf8-from_IsUtf8 text valid) refl)
+
+pub url_back : (text : List ℕ) → is_url_spelling text ≡ true → url_of text ≡ Some text
+unfolding url_of
+url_back text is = rw is refl

@@ -1,0 +1,7 @@
+pub mod Visible
+pub mod FieldsBack
+pub mod OriginsBack
+pub mod RulesBack
+pub mod BodiesBack
+pub mod LinesBack
+pub mod Answered

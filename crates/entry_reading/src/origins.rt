@@ -1,0 +1,118 @@
+//! Sites and origins.
+
+ghost use Rattle.std.specs.Prelude.{◌≡◌, min, length, option_map};
+ghost use Rattle.entry_reading.specs.Answers.{Gives, GivesBy, Takes};
+ghost use Rattle.entry_reading.specs.Fields as fields;
+
+use crate::fields::{Fields, cut, number_of};
+use crate::stop::ReadStop;
+use crate::texts::host_of;
+use page_origin::{OpaqueOrigin, Origin, Scheme, Site, TupleOrigin};
+use std::alloc::Global;
+
+fn scheme_of(text: &[u8]) -> Result<(Scheme, &[u8]), ReadStop>
+    ensures { GivesBy (λ p. (p.0, p.1.now)) result (fields.scheme_of text.now) }
+{
+    if text.starts_with(b"https://") {
+        Ok((Scheme::Https, &text[8..]))
+    } else if text.starts_with(b"http://") {
+        Ok((Scheme::Http, &text[7..]))
+    } else {
+        Err(ReadStop::BadLine)
+    }
+}
+
+#[tactic(auto, unfolding(crate::specs::Fields::site_of))]
+fn site_of(alloc: Global, text: &[u8]) -> Result<Site, ReadStop>
+    ensures { Gives result (fields.site_of text.now) }
+{
+    let (scheme, text) = scheme_of(text)?;
+    let host = host_of(alloc, text)?;
+    Ok(Site { scheme, host })
+}
+
+fn host_length(text: &[u8]) -> usize
+    ensures { result ≡ min (fields.host_length text.now) (length text.now) }
+{
+    match text {
+        [b'[', ..] => {
+            let (address, _) = cut(text, b']');
+            text.len().min(address.len() + 1)
+        }
+        _ => {
+            let (name, _) = cut(text, b':');
+            text.len().min(name.len())
+        }
+    }
+}
+
+fn port_of(scheme: Scheme, text: &[u8]) -> Result<u16, ReadStop>
+    ensures { Gives result (fields.port_of scheme text.now) }
+{
+    match text {
+        [] => Ok(scheme.default_port()),
+        [_, digits @ ..] => {
+            let port = number_of(digits)?;
+            if port > u16::MAX as u32 {
+                return Err(ReadStop::BadLine);
+            }
+            Ok(port as u16)
+        }
+    }
+}
+
+fn tuple_by(alloc: Global, scheme: Scheme, text: &[u8]) -> Result<TupleOrigin, ReadStop>
+    ensures { Gives result (fields.tuple_by scheme text.now) }
+{
+    let (host, port) = text.split_at(host_length(text));
+    let host = host_of(alloc, host)?;
+    let port = port_of(scheme, port)?;
+    Ok(TupleOrigin { scheme, host, port })
+}
+
+#[tactic(auto, unfolding(crate::specs::Fields::tuple_of))]
+fn tuple_of(alloc: Global, text: &[u8]) -> Result<TupleOrigin, ReadStop>
+    ensures { Gives result (fields.tuple_of text.now) }
+{
+    let (scheme, text) = scheme_of(text)?;
+    tuple_by(alloc, scheme, text)
+}
+
+fn opaque_of(alloc: Global, text: &[u8]) -> Result<Origin, ReadStop>
+    ensures { Gives result (fields.opaque_of text.now) }
+{
+    let (document, precursor) = cut(text, b':');
+    let document = number_of(document)?;
+    let precursor = site_of(alloc, precursor)?;
+    Ok(Origin::Opaque(OpaqueOrigin {
+        document,
+        precursor,
+    }))
+}
+
+#[tactic(auto, unfolding(crate::specs::Fields::origin_of))]
+pub fn origin_of(alloc: Global, text: &[u8]) -> Result<Origin, ReadStop>
+    ensures { Gives result (fields.origin_of text.now) }
+{
+    if text.starts_with(b"opaque:") {
+        opaque_of(alloc, &text[7..])
+    } else {
+        Ok(Origin::Tuple(tuple_of(alloc, text)?))
+    }
+}
+
+impl<'a> Fields<'a> {
+    /// The site that the next field is.
+    pub fn site(&mut self, alloc: Global) -> Result<Site, ReadStop>
+        ensures { Takes result self.new.rest.now (fields.field_by fields.site_of self.old.rest.now) }
+    {
+        site_of(alloc, self.word())
+    }
+
+    /// The origin that the next field is.
+    pub fn origin(&mut self, alloc: Global) -> Result<Origin, ReadStop>
+        ensures { Takes result self.new.rest.now (fields.field_by fields.origin_of self.old.rest.now) }
+    {
+        origin_of(alloc, self.word())
+    }
+}
