@@ -1,8 +1,8 @@
 -- A legal history has at most three entries for each start page: each entry has a number of its own.
-use Rattle.std.proofs.Common.{◌≡◌, ℕ, ◌+◌, ◌*◌, ◌<◌, ◌≤◌, not, Bool, true, false, List, [], ◌∷◌, ◌++◌, length, take, get_or, Option, Some, None, refl, ap, sym, ◌∙◌, subst, arith, suc, zero, cond, ◌==◌}
+use Rattle.std.proofs.Common.{◌≡◌, ℕ, ◌+◌, ◌*◌, ◌<◌, ◌≤◌, Bool, true, false, List, [], ◌∷◌, length, take, get_or, Option, Some, None, refl, ap, sym, ◌∙◌, arith, suc, zero, cond, ◌==◌}
 use Rattle.std.specs.Prelude.{map, count_by, is_some}
 use Rattle.std.specs.List.{slice_get, list_any}
-use Rattle.std.proofs.lemmas.Option.{slice_get_read, slice_get-get_or}
+use Rattle.std.proofs.lemmas.Option.{slice_get-get_or}
 use Rattle.std.proofs.lemmas.Map.Keys.{IsDistinct-from_apart}
 use Rattle.std.proofs.lemmas.Map.Steps.{length-le_from_distinct_below}
 use Rattle.std.proofs.lemmas.List.{length-map, get_or-map}
@@ -13,7 +13,7 @@ use Rattle.std.proofs.lemmas.List.Folds.{Any-from_list_any}
 use Rattle.page_origin.specs.declared.origin.Origin.{Origin}
 use Rattle.page_origin.specs.declared.site.Site.{Site}
 use Rattle.history_entry.specs.declared.entry.Entry.{Entry}
-use Rattle.history_entry.specs.declared.entry.Entry.TheVariants.{Commit, Crash, End, Exit, Head, Hop, Local, NavEnd, Opened, Order, Piece, Said, Warm}
+use Rattle.history_entry.specs.declared.entry.Entry.TheVariants.{Commit, Opened, Order}
 use Rattle.history_entry.specs.declared.reply.Reply.{Reply}
 use Rattle.history_facts.proofs.Choices.{any_here, from_cond, not_both}
 use Rattle.history_facts.proofs.LastMatch.{Given, last_match_given, last_match_there}
@@ -21,7 +21,7 @@ use Rattle.script_model.specs.Entries.{OrderData, answers, is_opened, last_match
 use Rattle.script_model.specs.Navigations.{order_of, was_answered, was_ordered}
 use Rattle.script_model.specs.ScriptData.{ScriptData, starts}
 use Rattle.history.specs.MayFollow.{MayFollow, next_of}
-use Rattle.history.specs.Run.{EachPlace, Legal}
+use Rattle.history.specs.Run.{Legal}
 use Rattle.history.proofs.Rows.{answering, opening, ordering, pending_is}
 
 -- the number of an entry, three for each start page

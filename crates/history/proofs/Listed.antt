@@ -1,15 +1,14 @@
 -- The list of the entries that may follow a legal history has each of them and no other.
 use Rattle.std.proofs.Common.{◌∙◌, ap, subst, refl, inl, inr, arith, sym}
-use Rattle.std.specs.List.{list_any, range_with_len}
-use Rattle.std.specs.Option.{option_map, option_to_list}
-use Rattle.std.specs.Prelude.{◌≡◌, ◌⊎◌, ◌&&◌, ◌+◌, ◌<◌, ◌≤◌, ◌++◌, ◌∷◌, [], ◌↔◌, ◌==◌, List, None, Option, Some, Bool, Contains, cond, count_by, false, filter_map, flat_map, fold, length, max, nat_lt, slice_get, suc, true, zero, ℕ}
+use Rattle.std.specs.List.{range_with_len}
+use Rattle.std.specs.Option.{option_to_list}
+use Rattle.std.specs.Prelude.{◌≡◌, ◌⊎◌, ◌+◌, ◌<◌, ◌≤◌, ◌++◌, ◌∷◌, [], ◌==◌, List, None, Option, Some, Contains, cond, count_by, filter_map, flat_map, fold, length, max, nat_lt, slice_get, suc, true, zero, ℕ}
 use Rattle.std.proofs.lemmas.Option.{get_or_from_slice_get, slice_get_within, slice_get_read}
 use Rattle.std.specs.List.{cons_option}
-use Rattle.std.proofs.lemmas.Bool.{eq-eqb, eqb-true}
+use Rattle.std.proofs.lemmas.Bool.{eq-eqb}
 use Rattle.history_entry.specs.declared.entry.Entry.{Entry}
-use Rattle.history_entry.specs.declared.entry.Entry.TheVariants.{Commit, Crash, End, Exit, Head, Hop, Local, NavEnd, Opened, Order, Piece, Said, Warm}
-use Rattle.history_entry.specs.declared.reply.Reply.TheVariants.{Ok as Okay}
-use Rattle.history_facts.proofs.Choices.{and_both, any_here, from_cond, from_map}
+use Rattle.history_entry.specs.declared.entry.Entry.TheVariants.{Commit, Opened, Order}
+use Rattle.history_facts.proofs.Choices.{and_both, any_here, from_cond}
 use Rattle.history_facts.proofs.LastMatch.{Given, last_match_given}
 use Rattle.script_model.specs.Entries.{OrderData, is_opened, order_in, orders_to, started_by}
 use Rattle.script_model.specs.Navigations.{documents, had_order, order_of}

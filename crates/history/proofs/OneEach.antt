@@ -1,11 +1,11 @@
 -- Of one object at most one entry may follow.
-use Rattle.std.specs.Prelude.{◌≡◌, List, Option, Some, ℕ}
-use Rattle.std.proofs.Common.{◌∙◌, ap, sym}
+use Rattle.std.specs.Prelude.{◌≡◌, List, Option, Some}
+use Rattle.std.proofs.Common.{ap}
 use Rattle.history_entry.specs.declared.entry.Entry.{Entry}
-use Rattle.history_entry.specs.declared.entry.Entry.TheVariants.{Commit, Crash, End, Exit, Head, Hop, Local, NavEnd, Opened, Order, Piece, Said, Warm}
+use Rattle.history_entry.specs.declared.entry.Entry.TheVariants.{Commit, Opened, Order}
 use Rattle.script_model.specs.ScriptData.{ScriptData}
 use Rattle.history.specs.MayFollow.{MayFollow, commit_next, next_of, order_next}
-use Rattle.history.specs.Objects.{AtMostOne, NavigationOf, OrderOf, object_of}
+use Rattle.history.specs.Objects.{AtMostOne, object_of}
 
 same_of : {A : Type 0} (o p : Option A) (a b : A) → o ≡ p → o ≡ Some a → p ≡ Some b → a ≡ b
 same_of o p a b e x y = cc

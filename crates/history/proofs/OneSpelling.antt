@@ -1,14 +1,14 @@
 -- Two legal histories with equal texts are equal: a line shows the object of its entry, and of one object at most one entry may follow.
-use Rattle.std.proofs.Common.{◌≡◌, ℕ, ◌+◌, ◌*◌, ◌^◌, ◌%◌, ◌<◌, ◌≤◌, List, [], ◌∷◌, ◌++◌, length, take, drop, Some, Option, Bool, true, refl, ap, sym, ◌∙◌, subst, arith, append_assoc}
-use Rattle.std.specs.Prelude.{codes, decimal, is_some, nat_lt, ◌==◌}
+use Rattle.std.proofs.Common.{◌≡◌, ℕ, ◌+◌, ◌^◌, ◌%◌, ◌<◌, ◌≤◌, List, [], ◌∷◌, ◌++◌, length, take, drop, Some, refl, ap, sym, ◌∙◌, subst, arith, append_assoc}
+use Rattle.std.specs.Prelude.{codes, decimal, nat_lt, ◌==◌}
 use Rattle.std.specs.List.{AllByRecursion, slice_get}
 use Rattle.std.proofs.lemmas.Fmt.{decimal_by_steps, decimal_injective}
 use Rattle.std.proofs.lemmas.List.{append_cancel_left}
-use Rattle.std.proofs.lemmas.Bool.{ltb-true, eqb-true}
+use Rattle.std.proofs.lemmas.Bool.{ltb-true}
 use Rattle.page_origin.specs.declared.origin.Origin.{Origin}
 use Rattle.page_origin.specs.declared.site.Site.{Site}
 use Rattle.history_entry.specs.declared.entry.Entry.{Entry}
-use Rattle.history_entry.specs.declared.entry.Entry.TheVariants.{Commit, Crash, End, Exit, Head, Hop, Local, NavEnd, Opened, Order, Piece, Said, Warm}
+use Rattle.history_entry.specs.declared.entry.Entry.TheVariants.{Commit, Opened, Order}
 use Rattle.history_entry.specs.declared.reply.Reply.{Reply}
 use Rattle.page_origin.specs.Origins.{site_text}
 use Rattle.entry_text.specs.Lines.{entry_text, field, line_of, number, origin_line}

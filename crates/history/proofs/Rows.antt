@@ -1,14 +1,11 @@
 -- What is known where an entry may follow: one lemma for each kind that is built.
-use Rattle.std.proofs.Common.{◌≡◌, ℕ, ◌<◌, ◌&&◌, not, Bool, true, false, List, Option, Some, None, refl, ap, ◌∙◌, arith, nat_lt, cond}
-use Rattle.std.specs.Prelude.{count_by, is_some, option_and_then}
+use Rattle.std.proofs.Common.{◌≡◌, ℕ, ◌<◌, ◌&&◌, not, true, false, List, Some, arith, nat_lt}
+use Rattle.std.specs.Prelude.{count_by}
 use Rattle.std.specs.List.{list_any}
 use Rattle.std.specs.Option.{option_map}
 use Rattle.std.proofs.lemmas.Bool.{ltb-true}
-use Rattle.page_origin.specs.declared.origin.Origin.{Origin}
-use Rattle.page_origin.specs.declared.site.Site.{Site}
 use Rattle.history_entry.specs.declared.entry.Entry.{Entry}
-use Rattle.history_entry.specs.declared.entry.Entry.TheVariants.{Commit, Opened, Order}
-use Rattle.history_entry.specs.declared.reply.Reply.{Reply}
+use Rattle.history_entry.specs.declared.entry.Entry.TheVariants.{Commit, Opened}
 use Rattle.history_entry.specs.declared.reply.Reply.TheVariants.{Ok as Okay}
 use Rattle.history_facts.proofs.Choices.{and_left, and_right, from_cond, from_map, from_then, not_true}
 use Rattle.script_model.specs.Entries.{OrderData, is_opened, opens}

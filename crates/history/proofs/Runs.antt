@@ -3,9 +3,8 @@ use Rattle.std.proofs.Common.{◌≡◌, ℕ, ◌+◌, ◌*◌, ◌-◌, ◌<◌
 use Rattle.std.specs.List.{slice_get}
 use Rattle.history_entry.specs.declared.entry.Entry.{Entry}
 use Rattle.script_model.specs.ScriptData.{ScriptData, starts}
-use Rattle.history.specs.Nexts.{nexts}
 use Rattle.history.specs.Objects.{RunsAreLegal}
-use Rattle.history.specs.Run.{EachPlace, IsFirst, IsRun, Legal}
+use Rattle.history.specs.Run.{EachPlace, IsFirst, Legal}
 use Rattle.history.proofs.Bound.{bounded}
 use Rattle.history.proofs.Listed.{listed_may}
 

@@ -1,5 +1,5 @@
 -- Legal and finished histories, and the run of one thread. Own rules.
-use Rattle.std.specs.Prelude.{◌≡◌, [], List, Option, Some, slice_get, take, ℕ}
+use Rattle.std.specs.Prelude.{◌≡◌, [], List, Some, slice_get, take, ℕ}
 use Rattle.history_entry.specs.declared.entry.Entry.{Entry}
 use Rattle.history.specs.MayFollow.{MayFollow}
 use Rattle.history.specs.Nexts.{nexts}

@@ -2,7 +2,7 @@ ghost use Rattle.std.specs.Prelude.{◌≡◌, ◌≤◌, All, IfOk, length};
 ghost use Rattle.page_origin.specs.PageUrls.{class_of};
 
 use crate::{History, may, nexts, run1, text_of};
-use script_model::{Entry, PageUrl, PageUrls, Resources, Rules, Script, UrlClass, page_url};
+use script_model::{Entry, PageUrl, PageUrls, Rules, Script, UrlClass, page_url};
 use std::alloc::Global;
 use std::test::Fail;
 
@@ -37,11 +37,8 @@ fn start_pages(alloc: Global, pages: &[&str]) -> Result<PageUrls, Fail>
 }
 
 fn script(alloc: Global, pages: &[&str]) -> Result<Script, Fail> {
-    Ok(Script {
-        rules: Rules::new(alloc),
-        start: start_pages(alloc, pages)?,
-        resources: Resources::from_vec(Vec::new(alloc)),
-    })
+    let start = start_pages(alloc, pages)?;
+    Ok(Script::new(alloc, Rules::new(alloc), start))
 }
 
 #[test]

@@ -9,7 +9,6 @@ use Rattle.std.specs.Option.{IfSome}
 use Rattle.std.proofs.lemmas.List.Sums.{sum_by-append, fold-append}
 use Rattle.std.proofs.lemmas.List.Elements.{filter_map-append}
 use Rattle.history_entry.specs.declared.entry.Entry.{Entry}
-use Rattle.script_model.specs.Entries.{started_by}
 
 range_suc : (a n : ℕ) → range_with_len a (suc n) ≡ range_with_len a n ++ (a + n) ∷ []
 range_suc a zero = let e : a ≡ a + 0 = omega arith in ap (λ x. x ∷ []) e

@@ -1,5 +1,5 @@
 -- The last match in a list, one entry longer.
-use Rattle.std.proofs.Common.{◌≡◌, Bool, true, false, zero, suc, List, [], ◌∷◌, ◌++◌, Option, Some, None, refl, ap, ◌∙◌, sym, ℕ, ◌+◌, ◌<◌, length, take, get_or, arith, Bor}
+use Rattle.std.proofs.Common.{◌≡◌, true, zero, suc, List, [], ◌∷◌, ◌++◌, Option, Some, None, refl, ap, ◌∙◌, sym, ℕ, ◌+◌, ◌<◌, length, take, get_or, Bor}
 use Rattle.std.proofs.lemmas.List.{take_more}
 use Rattle.std.specs.List.{slice_get}
 use Rattle.std.specs.Prelude.{is_some}

@@ -6,7 +6,7 @@ use crate::{
     opened, order_of, started, url_of, was_answered, was_ordered,
 };
 use script_model::{
-    Entry, Origin, PageUrls, RawUrl, Reply, Resources, Rules, Script, UrlClass, UrlText, page_url,
+    Entry, Origin, PageUrls, RawUrl, Reply, Rules, Script, UrlClass, UrlText, page_url,
     site_of_origin,
 };
 use std::alloc::Global;
@@ -19,11 +19,8 @@ fn script(alloc: Global) -> Result<Script, Fail>
     if page.class() != UrlClass::Web {
         return Err(Fail::new("no page of the web"));
     }
-    Ok(Script {
-        rules: Rules::new(alloc),
-        start: PageUrls::from_vec(vec![in alloc; page]?),
-        resources: Resources::from_vec(Vec::new(alloc)),
-    })
+    let start = PageUrls::from_vec(vec![in alloc; page]?);
+    Ok(Script::new(alloc, Rules::new(alloc), start))
 }
 
 fn order(alloc: Global, script: &Script) -> Result<Entry, Fail>
@@ -60,20 +57,32 @@ fn an_opened_page_is_pending(rt: HostRuntime) -> Result<(), Fail> {
 }
 
 #[test]
-fn an_order_locks_its_process(rt: HostRuntime) -> Result<(), Fail> {
+fn an_ordered_page_is_not_pending(rt: HostRuntime) -> Result<(), Fail> {
     let alloc = rt.alloc();
     let script = script(alloc)?;
     let entries = vec![in alloc; Entry::Opened(0), order(alloc, &script)?]?;
     assert!(rt; was_ordered(&entries, 0) && !is_pending(&script, &entries, 0));
     assert!(rt; had_order(&entries, 0, 0) && !had_order(&entries, 1, 0));
-    assert_eq!(rt;
-        order_of(&entries, 0).map(|order| order.url.as_str()),
-        Some("https://a.com/")
-    );
-    assert_eq!(rt;
-        lock_of(&entries, 0).map(|site| site.host.as_str()),
-        Some("a.com")
-    );
+    Ok(())
+}
+
+#[test]
+fn an_order_tells_its_url(rt: HostRuntime) -> Result<(), Fail> {
+    let alloc = rt.alloc();
+    let script = script(alloc)?;
+    let entries = vec![in alloc; order(alloc, &script)?]?;
+    let url = order_of(&entries, 0).map(|order| order.url.as_str());
+    assert_eq!(rt; url, Some("https://a.com/"));
+    Ok(())
+}
+
+#[test]
+fn an_order_locks_its_process(rt: HostRuntime) -> Result<(), Fail> {
+    let alloc = rt.alloc();
+    let script = script(alloc)?;
+    let entries = vec![in alloc; order(alloc, &script)?]?;
+    let host = lock_of(&entries, 0).map(|site| site.host.as_str());
+    assert_eq!(rt; host, Some("a.com"));
     assert!(rt; is_locked(&entries, 0) && !is_locked(&entries, 1));
     assert_eq!(rt; (started(&entries), live_count(&entries)), (1, 1));
     Ok(())

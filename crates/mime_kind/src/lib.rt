@@ -17,6 +17,7 @@ pub use field_text::{FieldText, FieldTextError};
 pub use head::Head;
 pub use kind::{Kind, kind_of};
 pub use memory::NoMemory;
+pub use texts::stripped;
 pub use type_options::nosniff;
 
 #[cfg(test)]

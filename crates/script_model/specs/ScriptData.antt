@@ -1,22 +1,38 @@
--- A script as plain data. Own format.
-use Rattle.std.specs.Prelude.{◌≡◌, ◌≤◌, All, List, length, ℕ}
-use Rattle.page_origin.specs.PageUrls.{class_of}
+-- A script as plain data, and what every script keeps. Own format.
+use Rattle.std.specs.Prelude.{◌≡◌, ◌≢◌, ◌≤◌, All, AllPairs, Bool, List, Option, bytes_eq, find, length, ℕ}
+use Rattle.page_origin.specs.PageUrls.{class_of, key_of}
 use Rattle.page_origin.specs.declared.class.UrlClass.TheVariants.{Web}
 use Rattle.public_suffix.specs.RegistrableDomain.{SuffixRule}
-use Rattle.script_model.specs.declared.script.Resource.{Resource}
+use Rattle.script_model.specs.ActionLimits.{IsActionAmong}
+use Rattle.script_model.specs.ResourceData.{ResourceData}
 
--- a script: its suffix rules, the URLs of its start pages, and its resources
+-- a script: its suffix rules, whether it keeps a spare process, from how many processes on they are shared, the URLs of its
+-- start pages, and its resources
 pub record ScriptData : Type 0 where
   pub rules : List SuffixRule
+  pub spare : Bool
+  pub soft_limit : ℕ
   pub start : List (List ℕ)
-  pub resources : List Resource
+  pub resources : List ResourceData
 
 -- the number of start pages
 abbrev pub starts : ScriptData → ℕ
 starts s = length s.start
 
--- what every script keeps: at most 64 start pages, each of class Web, and at most 1,024 resources
-pub record IsScript (start : List (List ℕ)) (resources : List Resource) : Type 0 where
-  pub few_pages : length start ≤ 64
-  pub few_resources : length resources ≤ 1024
-  pub web_pages : All (λ url. class_of url ≡ Web) start
+-- what a resource is found by: its URL without the fragment
+abbrev pub resource_key : ResourceData → List ℕ
+resource_key r = key_of r.url
+
+-- the resource with that key
+unfoldable pub find_resource : ScriptData → List ℕ → Option ResourceData
+find_resource s key = find (λ r. bytes_eq (resource_key r) key) s.resources
+
+-- what every script keeps: at most 64 start pages, each of class Web; at most 1,024 resources, no two with one key; and
+-- actions that name only resources that there are
+pub record IsScript (s : ScriptData) : Type 0 where
+  pub low_limit : s.soft_limit ≤ 64
+  pub few_pages : length s.start ≤ 64
+  pub web_pages : All (λ url. class_of url ≡ Web) s.start
+  pub few_resources : length s.resources ≤ 1024
+  pub distinct : AllPairs (λ a b. resource_key a ≢ resource_key b) s.resources
+  pub among : All (λ r. All (IsActionAmong (length s.resources)) r.actions) s.resources

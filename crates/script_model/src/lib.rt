@@ -6,25 +6,41 @@
 #![tactic(auto)]
 
 mod action;
+mod early;
+pub mod laws;
+mod pages;
+mod plain;
 mod post;
+mod resource;
 mod script;
 mod service;
+mod verdict;
 
 pub use action::{Action, FrameRef, RawBody, RawMessage};
+pub use cors_check::Cors;
+pub use early::early_verdict;
 pub use history_entry::{
     Body, EndHow, Entry, EntryKind, HopOf, LocalWhat, Message, Mode, PieceBytes, RawUrl, Reply,
     RequestText, Rule, ServiceName, Src, Target, equal_entries,
 };
+pub use http::StatusCode;
+pub use mime_kind::{FieldText, FieldTextError, Head, Kind, kind_of, nosniff};
 pub use page_origin::{
     HostText, NoMemory, OpaqueOrigin, Origin, OriginText, PageUrl, Scheme, Site, TupleOrigin,
     UrlClass, UrlRefusal, UrlText, equal_origins, equal_sites, has_origin, join_url, origin_text,
     page_url, same_origin, tuple_of,
 };
+pub use pages::PageUrls;
+pub use plain::plain_verdict;
 pub use post::Posted;
 pub use public_suffix::{Rules, RulesRefusal};
-pub use script::{PageUrls, Resource, Resources, Script};
+pub use resource::{Actions, Cuts, Resource, Resources};
+pub use script::{Script, find};
 pub use service::{Asked, ServiceAnswer};
 pub use site_url::{same_site, site_of, site_of_origin};
+pub use verdict::{Verdict, sniff_kind, sniffed_verdict};
 
 #[cfg(test)]
 mod tests;
+#[cfg(test)]
+mod verdict_tests;

@@ -1,98 +1,27 @@
-ghost use Rattle.std.specs.Prelude.{◌≡◌, ◌≤◌, ◌<◌, [], slice_get, unwrap_or};
+ghost use Rattle.std.specs.Prelude.{◌≡◌, ◌≤◌, ◌<◌, All, [], false, length, slice_get, unwrap_or};
 ghost use Rattle.std.specs.Option.{option_copied};
 ghost use Rattle.page_origin.specs.PageUrls.{class_of};
-ghost use Rattle.script_model.specs.ScriptData.{starts};
+ghost use Rattle.script_model.specs.ScriptData.{starts, find_resource};
 
+use crate::pages::PageUrls;
+use crate::resource::{Resource, Resources};
 use page_origin::{PageUrl, UrlClass};
 use public_suffix::Rules;
+use std::alloc::Global;
 use std::marker::Model;
 
-/// A list of URLs of pages.
-#[derive(Drop)]
-pub struct PageUrls {
-    urls: Vec<PageUrl>,
-}
-
-impl Model for PageUrls {
-    ghost use Rattle.std.specs.Prelude.{ℕ, List};
-
-    ghost Value = { List (List ℕ) };
-
-    ghost view = { λ u. u.urls.items };
-}
-
-impl PageUrls {
-    pub fn from_vec(urls: Vec<PageUrl>) -> Self
-        ensures { result ≡ urls.items }
-    {
-        PageUrls { urls }
-    }
-
-    pub fn into_vec(self) -> Vec<PageUrl>
-        ensures { result.items ≡ self }
-    {
-        self.urls
-    }
-
-    pub fn as_slice(&self) -> &[PageUrl]
-        ensures { result.now ≡ self.now }
-    {
-        self.urls.as_slice()
-    }
-
-    pub fn get(&self, index: usize) -> Option<&PageUrl>
-        ensures { option_copied result ≡ slice_get self.now index }
-    {
-        self.urls.get(index)
-    }
-}
-
-/// What stands at a URL. So far that is the URL alone.
-#[derive(Drop)]
-pub struct Resource {
-    pub url: PageUrl,
-}
-
-/// A list of resources.
-#[derive(Drop)]
-pub struct Resources {
-    resources: Vec<Resource>,
-}
-
-impl Model for Resources {
-    ghost use Rattle.std.specs.Prelude.{List};
-    ghost use Rattle.script_model.specs.declared.script.Resource.{Resource};
-
-    ghost Value = { List Resource };
-
-    ghost view = { λ r. r.resources.items };
-}
-
-impl Resources {
-    pub fn from_vec(resources: Vec<Resource>) -> Self
-        ensures { result ≡ resources.items }
-    {
-        Resources { resources }
-    }
-
-    pub fn into_vec(self) -> Vec<Resource>
-        ensures { result.items ≡ self }
-    {
-        self.resources
-    }
-
-    pub fn as_slice(&self) -> &[Resource]
-        ensures { result.now ≡ self.now }
-    {
-        self.resources.as_slice()
-    }
-}
-
-/// What a browser is to do: the pages that it opens, at most 64 and of class Web, the resources that there are, at most
-/// 1,024, and the suffix rules by which it tells sites apart.
+/// What a browser is to do: the pages that it opens, the resources that there are, and the suffix rules by which it tells
+/// sites apart.
+///
+/// There are at most 64 start pages, each of class Web, and at most 1,024 resources, no two at one URL but for its fragment.
+/// The actions of these name only resources that there are.
 #[derive(Drop)]
 pub struct Script {
     pub rules: Rules,
+    /// Whether a process is kept ready before a page needs it.
+    pub spare: bool,
+    /// From how many live processes on, up to 64, pages of one site share a process.
+    pub soft_limit: u32,
     pub start: PageUrls,
     pub resources: Resources,
 }
@@ -102,12 +31,28 @@ impl Model for Script {
 
     ghost Value = { ScriptData };
 
-    ghost view = { λ s. record { rules = s.rules; start = s.start; resources = s.resources } };
+    ghost view = { λ s. record { rules = s.rules; spare = s.spare; soft_limit = s.soft_limit; start = s.start; resources = s.resources } };
 
-    ghost invariant = { λ s. IsScript s.start s.resources };
+    ghost invariant = { λ s. IsScript (record { rules = s.rules; spare = s.spare; soft_limit = s.soft_limit; start = s.start; resources = s.resources }) };
 }
 
 impl Script {
+    /// A script that opens these pages, with all else as where a script leaves it out: no spare process, 64 as the soft
+    /// limit, and no resources.
+    pub fn new(alloc: Global, rules: Rules, start: PageUrls) -> Script
+        requires few { length start ≤ 64 }
+        requires web { All (λ url. class_of url ≡ UrlClass.Web) start }
+        ensures { result ≡ record { rules = rules; spare = false; soft_limit = 64; start = start; resources = [] } }
+    {
+        Script {
+            rules,
+            spare: false,
+            soft_limit: 64,
+            start,
+            resources: Resources::from_vec(Vec::new(alloc)),
+        }
+    }
+
     /// How many start pages there are.
     pub fn start_count(&self) -> usize
         ensures count { result ≡ starts self.now }
@@ -124,4 +69,16 @@ impl Script {
     {
         self.start.get(page as usize).unwrap()
     }
+}
+
+/// The resource with a key, a URL without its fragment.
+#[tactic(auto, unfolding(crate::specs::ScriptData::find_resource))]
+pub fn find<'a>(script: &'a Script, key: &str) -> Option<&'a Resource>
+    ensures { option_copied result ≡ find_resource script.now key.now }
+{
+    script
+        .resources
+        .as_slice()
+        .iter()
+        .find(|resource| resource.url.key() == key)
 }

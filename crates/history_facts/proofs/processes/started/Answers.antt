@@ -1,4 +1,4 @@
-use Rattle.std.proofs.Common.{ap, ◌∙◌, ◌≡◌, ◌≤◌, ◌^◌, subst, ℕ}
+use Rattle.std.proofs.Common.{ap, ◌∙◌, ◌^◌}
 use Rattle.std.specs.Prelude.{fold, max}
 use Rattle.std.specs.Option.{option_to_list}
 use Rattle.script_model.specs.Entries.{started_by}
