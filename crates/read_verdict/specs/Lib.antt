@@ -1,0 +1,4 @@
+pub mod Cases
+pub mod Rulings
+pub mod ClearedData
+pub mod HasJudged
