@@ -1,5 +1,3 @@
-pub mod Refusals
-pub mod UrlForm
-pub mod FirstForm
+pub mod NotBuilt
 pub mod StatusLines
 pub mod Browse

@@ -1,6 +1,6 @@
 -- The line that stands on standard error for a status, and the status with which the program exits. Own format.
 use Rattle.std.specs.Prelude.{◌++◌, ◌∷◌, [], ◌==◌, List, codes, decimal, if◌then◌else◌, ℕ}
-use Rattle.browser_cli.specs.declared.refusal.Refusal.{Refusal}
+use Rattle.script_input.specs.declared.refusal.Refusal.{Refusal}
 use Rattle.browser_cli.specs.declared.status.Status.{Status}
 use Rattle.browser_cli.specs.declared.status.Status.TheVariants.{Ran, Usage, ReadFault, WriteFault, Refused, TooLarge, NoMemory}
 

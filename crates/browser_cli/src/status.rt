@@ -2,7 +2,7 @@ ghost use Rattle.std.specs.Prelude.{◌≡◌, ◌++◌, IfOk, OnOk, string_byte
 ghost use Rattle.std.specs.Fmt.{decimal};
 ghost use Rattle.browser_cli.specs.StatusLines as lines;
 
-use crate::refusal::Refusal;
+use script_input::Refusal;
 use script_model::NoMemory;
 use std::alloc::Global;
 use std::marker::Model;

@@ -1,7 +1,7 @@
 ghost use Rattle.std.specs.Prelude.{◌≤◌};
 
-use crate::{PathText, Refusal, Status, browse_one, read_script, status_line};
-use browser_io::{MemSink, MemSource};
+use crate::{PathText, Refusal, Status, browse_one, status_line};
+use browser_io::{MemSink, MemSource, NeverSink, NeverSource};
 use std::alloc::Global;
 use std::test::Fail;
 
@@ -50,7 +50,7 @@ fn run(
 #[test]
 fn commands_end_with_their_status(rt: HostRuntime) -> Result<(), Fail> {
     let usage = "usage: one | run N | audit | gen NUMBER";
-    let cases: [(&[&str], &str, u8, &str, &str); 12] = [
+    let cases: [(&[&str], &str, u8, &str, &str); 11] = [
         (&["one"], PAGE, 0, "", PAGE_TEXT),
         (&["one"], r#"{"start":[]}"#, 0, "", ""),
         (
@@ -62,19 +62,12 @@ fn commands_end_with_their_status(rt: HostRuntime) -> Result<(), Fail> {
         ),
         (
             &["one"],
-            r#"{"start":["https://a.com/x"]}"#,
-            5,
-            "refused X9",
-            "",
-        ),
-        (
-            &["one"],
             r#"{"start":["https://a.com/"],"resou"#,
             5,
             "refused X1",
             "",
         ),
-        (&["one"], "[]", 5, "refused X9", ""),
+        (&["one"], "[]", 5, "refused X2", ""),
         (&["one"], "", 5, "refused X1", ""),
         (&[], PAGE, 2, usage, ""),
         (&["run", "0"], PAGE, 2, usage, ""),
@@ -117,37 +110,101 @@ fn too_much_input_is_told(rt: HostRuntime) -> Result<(), Fail> {
     Ok(())
 }
 
-#[test]
-fn scripts_of_another_form_are_refused(rt: HostRuntime) -> Result<(), Fail> {
-    let accepted = [
-        r#"{"start":[]}"#,
-        r#" { "resources" : [ ] , "start" : [ "https://a.com/" ] } "#,
-        r#"{"start":[],"resources":[{"url":"https://b.org/"}]}"#,
-        r#"{"start":[1],"start":[]}"#,
-    ];
-    for text in accepted {
-        let script = read_script(rt.alloc(), text.as_bytes());
-        assert!(rt; script.is_ok(), "{text}");
-    }
-    let refused = [
-        "null",
-        "{}",
-        r#"{"start":{}}"#,
-        r#"{"start":"https://a.com/"}"#,
-        r#"{"start":[1]}"#,
+// Scripts with the line that their refusal shows, and an empty line where they run.
+const SCRIPTS: &[(&str, &str)] = &[
+    ("[]", "refused X2"),
+    ("{}", "refused X2 /start"),
+    (r#"{"start":[],"x":1}"#, "refused X2"),
+    (r#"{"start":["ftp://a.com/"]}"#, "refused X3 /start/0"),
+    (r#"{"start":[],"suffixes":"a.*.b"}"#, "refused X4 line 1"),
+    (r#"{"start":[],"soft_limit":65}"#, "refused X6 /soft_limit"),
+    (r#"{"start":[],"soft_limit":1.5}"#, "refused X2 /soft_limit"),
+    (
+        r#"{"start":[],"resources":[{"url":"about:srcdoc"}]}"#,
+        "refused X3 /resources/0/url",
+    ),
+    (
+        r#"{"start":[],"resources":[{"url":"https://a.com/"},{"url":"https://a.com/#x"}]}"#,
+        "refused X7 /resources/1/url",
+    ),
+    (
+        r#"{"start":[],"resources":[{"url":"https://a.com/","headers":[["Bad Name","x"]]}]}"#,
+        "refused X5 /resources/0/headers/0/0",
+    ),
+    (
+        r#"{"start":[],"resources":[{"url":"https://a.com/","actions":[{"do":"fly"}]}]}"#,
+        "refused X2 /resources/0/actions/0/do",
+    ),
+    (r#"{"start":[],"spare":true}"#, "refused X9"),
+    (
         r#"{"start":["https://a.com/","https://b.org/"]}"#,
-        r#"{"start":[],"spare":true}"#,
-        r#"{"start":[],"resources":{}}"#,
-        r#"{"start":[],"resources":["https://a.com/"]}"#,
-        r#"{"start":[],"resources":[{}]}"#,
-        r#"{"start":[],"resources":[{"url":"https://a.com/x"}]}"#,
-        r#"{"start":[],"resources":[{"url":"https://a.com/","status":200}]}"#,
-        r#"{"start":[],"resources":[{"url":"https://a.com/"},{"url":"https://b.org/"}]}"#,
-    ];
-    for text in refused {
-        let script = read_script(rt.alloc(), text.as_bytes());
-        assert!(rt; script.is_err(), "{text}");
+        "refused X9",
+    ),
+    (
+        r#"{"start":[],"resources":[{"url":"https://a.com/","actions":[{"do":"wait"}]}]}"#,
+        "refused X9",
+    ),
+    (
+        r#"{"start":[],"resources":[{"url":"https://a.com/","fail_after":0}]}"#,
+        "refused X9",
+    ),
+    (
+        r#"{"start":[],"resources":[{"url":"https://a.com/","body":"x","fail_after":1}]}"#,
+        "",
+    ),
+    (r#"{"start":["https://a.com/"],"soft_limit":0}"#, ""),
+    (
+        r#"{"start":[],"spare":true,"soft_limit":65}"#,
+        "refused X6 /soft_limit",
+    ),
+];
+
+#[test]
+fn scripts_are_refused_by_code_and_path(rt: HostRuntime) -> Result<(), Fail> {
+    for (script, line) in SCRIPTS {
+        let ended = run(rt.alloc(), &["one"], script, 4096, None, None)?;
+        assert_eq!(rt; ended.line.as_str(), *line, "{script}");
+        let code = if line.is_empty() { 0 } else { 5 };
+        assert_eq!(rt; ended.code, code, "{script}");
     }
+    Ok(())
+}
+
+#[test]
+fn statuses_that_lead_on_are_not_built(rt: HostRuntime) -> Result<(), Fail> {
+    let alloc = rt.alloc();
+    for (status, code) in [
+        (200, 0),
+        (203, 0),
+        (204, 5),
+        (205, 5),
+        (206, 0),
+        (300, 0),
+        (301, 5),
+        (302, 5),
+        (303, 5),
+        (304, 0),
+        (307, 5),
+        (308, 5),
+        (404, 0),
+        (599, 0),
+    ] {
+        let script = format!(in alloc;
+            "{{\"start\":[],\"resources\":[{{\"url\":\"https://a.com/\",\"status\":{status}}}]}}"
+        )?;
+        let ended = run(alloc, &["one"], script.as_str(), 4096, None, None)?;
+        assert_eq!(rt; ended.code, code, "{status}");
+    }
+    Ok(())
+}
+
+#[test]
+fn a_page_runs_where_nothing_fails(rt: HostRuntime) -> Result<(), Fail> {
+    let alloc = rt.alloc();
+    let mut source = NeverSource::new(PAGE.as_bytes().to_vec(alloc)?, 7);
+    let mut sink = NeverSink::new(3);
+    let status = browse_one(alloc, &["one"], &mut source, &mut sink);
+    assert_eq!(rt; status.exit_code(), 0);
     Ok(())
 }
 

@@ -1,0 +1,9 @@
+pub mod BelowLemmas
+pub mod ItemsLemmas
+pub mod Numerals
+pub mod Blanks
+pub mod FieldNames
+pub mod HeaderLimits
+pub mod CutLimits
+pub mod ActionLimits
+pub mod ResourceLimits

@@ -1,0 +1,15 @@
+pub mod Refusals
+pub mod Checked
+pub mod Answers
+pub mod Values
+pub mod Objects
+pub mod Lists
+pub mod Words
+pub mod Urls
+pub mod Frames
+pub mod RawMessages
+pub mod Actions
+pub mod Headers
+pub mod Bodies
+pub mod Resources
+pub mod ScriptReading

@@ -1,0 +1,70 @@
+-- The script that bytes are, or its first refusal. Own format.
+use Rattle.std.specs.Prelude.{ℕ, false, ◌==◌, List, [], ◌∷◌, length, codes, Option, Some, None, Result, Ok, Err, unwrap_or, if◌then◌else◌}
+use Rattle.std.specs.Str.Lossy.{utf8_valid_len}
+use Rattle.serde_json.specs.Data.{Data}
+use Rattle.serde_json.specs.Read.{read}
+use Rattle.public_suffix.specs.Reading.{reading}
+use Rattle.public_suffix.specs.RegistrableDomain.{SuffixRule}
+use Rattle.public_suffix.specs.declared.refusal.RulesRefusal.{RulesRefusal}
+use Rattle.public_suffix.specs.declared.refusal.RulesRefusal.TheVariants.{BadRule, NoMemory}
+use Rattle.script_model.specs.ScriptData.{ScriptData}
+use Rattle.script_input.specs.Checked.{Checked, ◌>>=◌, refuse}
+use Rattle.script_input.specs.Refusals.{not_json, rule_refusal}
+use Rattle.script_input.specs.Values.{bool_at, integer_within, text_within}
+use Rattle.script_input.specs.Objects.{object_at, optional, or_default, required}
+use Rattle.script_input.specs.Lists.{list_at}
+use Rattle.script_input.specs.Urls.{web_at}
+use Rattle.script_input.specs.Resources.{resources_in}
+
+-- a text of suffix rules: at most 1,048,576 bytes
+abbrev pub suffix_text_at : Data → Checked (List ℕ)
+suffix_text_at = text_within 0 1048576
+
+-- the rules of a text, or X4 of its first bad line
+abbrev pub rules_of : Result (List SuffixRule) RulesRefusal → Checked (List SuffixRule)
+rules_of (Ok rules) = Ok rules
+rules_of (Err (BadRule line)) = Err (rule_refusal line)
+rules_of (Err NoMemory) = Err (rule_refusal 0)
+
+-- the suffix rules, none where they are left out
+unfoldable pub rules_in : Data → Checked (List SuffixRule)
+rules_in d = do
+  text ← or_default (codes "suffixes") suffix_text_at [] d
+  rules_of (reading text)
+
+-- at most 64 URLs of class Web
+abbrev pub start_at : Data → Checked (List (List ℕ))
+start_at = list_at (λ before. web_at) 64
+
+-- the keys of a script, in the order of the table
+abbrev pub script_keys : List (List ℕ)
+script_keys = codes "suffixes" ∷ codes "spare" ∷ codes "soft_limit" ∷ codes "start" ∷ codes "resources" ∷ []
+
+-- the script that a JSON value is
+unfoldable pub script_at : Data → Checked ScriptData
+script_at d = do
+  _ ← object_at (codes "start" ∷ []) script_keys d
+  rules ← rules_in d
+  spare ← optional (codes "spare") bool_at d
+  soft_limit ← optional (codes "soft_limit") (integer_within 0 64) d
+  start ← required (codes "start") start_at d
+  resources ← resources_in d
+  Ok (record {
+    rules = rules;
+    spare = unwrap_or spare false;
+    soft_limit = unwrap_or soft_limit 64;
+    start = start;
+    resources = resources;
+  })
+
+-- the JSON value of bytes, which are UTF-8
+unfoldable pub json_of : List ℕ → Option Data
+json_of bytes = if utf8_valid_len bytes == length bytes then read bytes else None
+
+abbrev pub script_of_value : Option Data → Checked ScriptData
+script_of_value None = refuse not_json
+script_of_value (Some d) = script_at d
+
+-- the script that bytes are
+unfoldable pub script_of : List ℕ → Checked ScriptData
+script_of bytes = script_of_value (json_of bytes)

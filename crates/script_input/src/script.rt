@@ -1,0 +1,123 @@
+//! The script that bytes are.
+
+ghost use Rattle.std.specs.Prelude.{◌≡◌, [], codes};
+ghost use Rattle.public_suffix.specs.Reading.{reading};
+ghost use Rattle.serde_json.specs.Read.{read};
+ghost use Rattle.serde_json.specs.View.{view};
+ghost use Rattle.script_input.specs.Answers.{Gives, GivesBy};
+ghost use Rattle.script_input.specs.Objects.{or_default};
+ghost use Rattle.script_input.specs.ScriptReading as spec;
+
+use crate::list::{Each, list_at};
+use crate::object::{object_at, optional, required};
+use crate::refusal::{NOT_JSON, Refusal, ScriptStop, refused};
+use crate::resource::resources_in;
+use crate::text::text_within;
+use crate::urls::WebUrl;
+use crate::value::{Boolean, Integer, Reader, below};
+use script_model::{PageUrls, Rules, RulesRefusal, Script};
+use serde_json::Value;
+use std::alloc::Global;
+
+/// The most bytes of the text of suffix rules.
+const MAX_SUFFIXES: usize = 1_048_576;
+/// The most start pages.
+const MAX_START: usize = 64;
+
+#[tactic(auto, unfolding(crate::specs::Objects::or_default), using(crate::proofs::BelowLemmas::below_gives))]
+fn suffixes_in(alloc: Global, value: &Value) -> Result<&str, ScriptStop>
+    ensures { GivesBy (λ text. text.now) result (or_default (codes "suffixes") spec.suffix_text_at [] (view value.now)) }
+{
+    match value.get("suffixes") {
+        Some(found) => below(
+            alloc,
+            "suffixes",
+            text_within(alloc, 0, MAX_SUFFIXES, found),
+        ),
+        None => Ok(""),
+    }
+}
+
+fn rules_of(alloc: Global, text: &str) -> Result<Rules, ScriptStop>
+    ensures { Gives result (spec.rules_of (reading text.now)) }
+{
+    match Rules::read(alloc, text.as_bytes()) {
+        Ok(rules) => Ok(rules),
+        Err(RulesRefusal::BadRule(line)) => Err(ScriptStop::Refused(Refusal::of_rule(alloc, line))),
+        Err(RulesRefusal::NoMemory) => Err(ScriptStop::NoMemory),
+    }
+}
+
+#[tactic(auto, unfolding(crate::specs::ScriptReading::rules_in))]
+fn rules_in(alloc: Global, value: &Value) -> Result<Rules, ScriptStop>
+    ensures { Gives result (spec.rules_in (view value.now)) }
+{
+    let text = suffixes_in(alloc, value)?;
+    rules_of(alloc, text)
+}
+
+/// The start pages.
+struct StartPages;
+
+impl Reader for StartPages {
+    type Read = PageUrls;
+
+    ghost use Rattle.std.specs.Prelude.{◌≡◌, ◌≤◌, All, length};
+    ghost use Rattle.page_origin.specs.PageUrls.{class_of};
+    ghost use Rattle.page_origin.specs.declared.class.UrlClass.TheVariants.{Web};
+    ghost use Rattle.script_input.specs.ScriptReading as spec;
+
+    ghost reading = { λ _. spec.start_at };
+
+    ghost keeps = { λ _ urls. (length urls ≤ 64) × All (λ url. class_of url ≡ Web) urls };
+
+    fn read(&self, alloc: Global, value: &Value) -> Result<PageUrls, ScriptStop> {
+        let urls = list_at(alloc, &Each(WebUrl), MAX_START, value)?;
+        Ok(PageUrls::from_vec(urls))
+    }
+}
+
+#[tactic(auto, unfolding(crate::specs::ScriptReading::script_at, crate::specs::Objects::object_at))]
+fn script_at(alloc: Global, value: &Value) -> Result<Script, ScriptStop>
+    ensures { Gives result (spec.script_at (view value.now)) }
+{
+    let keys = ["suffixes", "spare", "soft_limit", "start", "resources"];
+    object_at(alloc, &["start"], &keys, value)?;
+    let rules = rules_in(alloc, value)?;
+    let spare = optional(alloc, "spare", &Boolean, value)?;
+    let soft_limit = optional(alloc, "soft_limit", &Integer { least: 0, most: 64 }, value)?;
+    let start = required(alloc, "start", &StartPages, value)?;
+    let resources = resources_in(alloc, value)?;
+    Ok(Script {
+        rules,
+        spare: spare.unwrap_or(false),
+        soft_limit: soft_limit.unwrap_or(64),
+        start,
+        resources,
+    })
+}
+
+fn text_script(alloc: Global, text: &str) -> Result<Script, ScriptStop>
+    ensures { Gives result (spec.script_of_value (read text.now)) }
+{
+    match Value::from_str(alloc, text) {
+        Ok(value) => script_at(alloc, &value),
+        Err(error) => {
+            if error.is_memory() {
+                Err(ScriptStop::NoMemory)
+            } else {
+                Err(refused(alloc, NOT_JSON))
+            }
+        }
+    }
+}
+
+/// The script that bytes are, or its first refusal.
+pub fn read_script(alloc: Global, bytes: &[u8]) -> Result<Script, ScriptStop>
+    ensures { Gives result (spec.script_of bytes.now) }
+{
+    match str::from_utf8(bytes) {
+        Ok(text) => text_script(alloc, text),
+        Err(_) => Err(refused(alloc, NOT_JSON)),
+    }
+}
