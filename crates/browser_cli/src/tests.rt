@@ -1,6 +1,6 @@
 ghost use Rattle.std.specs.Prelude.{◌≤◌};
 
-use crate::{PathText, Refusal, Status, browse_one, status_line};
+use crate::{PathText, Refusal, Status, browse_one, read_script, status_line};
 use browser_io::{MemSink, MemSource, NeverSink, NeverSource};
 use std::alloc::Global;
 use std::test::Fail;
@@ -166,6 +166,30 @@ fn scripts_are_refused_by_code_and_path(rt: HostRuntime) -> Result<(), Fail> {
         assert_eq!(rt; ended.line.as_str(), *line, "{script}");
         let code = if line.is_empty() { 0 } else { 5 };
         assert_eq!(rt; ended.code, code, "{script}");
+    }
+    Ok(())
+}
+
+fn stop_text(alloc: Global, script: &str) -> Result<String, Fail> {
+    match read_script(alloc, script.as_bytes()) {
+        Ok(_) => Ok(String::new(alloc)),
+        Err(stop) => Ok(stop.to_string(alloc)?),
+    }
+}
+
+#[test]
+fn refusals_have_texts(rt: HostRuntime) -> Result<(), Fail> {
+    for (script, want) in [
+        ("[]", "the script is refused: X2"),
+        (r#"{"start":["no"]}"#, "the script is refused: X3 /start/0"),
+        (
+            r#"{"start":[],"suffixes":"a.*.b"}"#,
+            "the script is refused: X4 line 1",
+        ),
+        (r#"{"start":[]}"#, ""),
+    ] {
+        let text = stop_text(rt.alloc(), script)?;
+        assert_eq!(rt; text.as_str(), want);
     }
     Ok(())
 }
