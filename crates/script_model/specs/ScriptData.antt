@@ -2,14 +2,16 @@
 use Rattle.std.specs.Prelude.{◌≡◌, ◌≢◌, ◌≤◌, All, AllPairs, Bool, List, Option, bytes_eq, find, length, ℕ}
 use Rattle.page_origin.specs.PageUrls.{class_of, key_of}
 use Rattle.page_origin.specs.declared.class.UrlClass.TheVariants.{Web}
-use Rattle.public_suffix.specs.RegistrableDomain.{SuffixRule}
+use Rattle.site_url.specs.Sites.{SiteRuleData}
+use Rattle.history_entry.specs.declared.policy.Policy.{Policy}
 use Rattle.script_model.specs.ActionLimits.{IsActionAmong}
 use Rattle.script_model.specs.ResourceData.{ResourceData}
 
--- a script: its suffix rules, whether it keeps a spare process, from how many processes on they are shared, the URLs of its
--- start pages, and its resources
+-- a script: the policy of its verdicts, the rules of its sites, whether it keeps a spare process, from how many processes on
+-- they are shared, the URLs of its start pages, and its resources
 pub record ScriptData : Type 0 where
-  pub rules : List SuffixRule
+  pub policy : Policy
+  pub rules : SiteRuleData
   pub spare : Bool
   pub soft_limit : ℕ
   pub start : List (List ℕ)
