@@ -5,6 +5,7 @@ use Rattle.std.specs.Prelude.{◌&&◌, if◌then◌else◌, Bool, List, None, O
 use Rattle.page_origin.specs.declared.site.Site.{Site}
 use Rattle.history_entry.specs.declared.entry.Entry.{Entry}
 use Rattle.script_model.specs.Entries.{last_match, lock_in, started_by}
+use Rattle.script_model.specs.declared.limits.TheConstants.{MAX_LIVE_PROCESSES, MAX_STARTED_PROCESSES}
 
 -- the site to which a process is locked
 unfoldable pub lock_of : List Entry → ℕ → Option Site
@@ -28,7 +29,7 @@ live_count h = count_by (is_locked h) (processes h)
 
 -- one more process may start: fewer than 64 are live, and fewer than 1,024 were started
 unfoldable pub may_start : List Entry → Bool
-may_start h = nat_lt (live_count h) 64 && nat_lt (started h) 1024
+may_start h = nat_lt (live_count h) MAX_LIVE_PROCESSES && nat_lt (started h) MAX_STARTED_PROCESSES
 
 -- the process for a navigation: the next number, where one more may start. No page shares one with another, since each start page has a group of its own
 unfoldable pub choice : List Entry → Option ℕ
