@@ -1,1 +1,2 @@
 pub mod FirstMember
+pub mod Joining
