@@ -1,2 +1,3 @@
 pub mod PageUrlLemmas
 pub mod HostLemmas
+pub mod Spellings

@@ -1,5 +1,6 @@
--- Sites and origins: tuples after the URL Standard, and opaque ones, each made for one document. Their texts are those of a history.
-use Rattle.std.specs.Prelude.{ℕ, Bool, true, false, ◌==◌, ◌&&◌, List, [], ◌++◌, codes, bytes_eq, decimal, unwrap_or, if◌then◌else◌}
+-- Sites and origins: tuples after the URL Standard, and opaque ones, each made for one document. The text of an origin is what an
+-- `Origin` header has; the text of a site is that of a history.
+use Rattle.std.specs.Prelude.{ℕ, Bool, true, false, ◌==◌, ◌&&◌, List, [], ◌++◌, codes, bytes_eq, decimal, unwrap_or, Option, Some, None, if◌then◌else◌}
 use Rattle.std.specs.Option.{option_or, option_map_or}
 use Rattle.url.specs.Parts.{Parts, host_or_empty}
 use Rattle.url.specs.Scheme.{default_port}
@@ -40,13 +41,25 @@ default_port_of Http = 80
 default_port_of Https = 443
 
 -- `scheme://host`
-abbrev pub site_text : Site → List ℕ
-site_text site = scheme_text site.scheme ++ codes "://" ++ site.host
+abbrev pub plain_text : Scheme → List ℕ → List ℕ
+plain_text scheme host = scheme_text scheme ++ codes "://" ++ host
+
+-- `:port`, and nothing where it is the scheme's own
+abbrev pub port_text : Scheme → ℕ → List ℕ
+port_text scheme port = if port == default_port_of scheme then [] else codes ":" ++ decimal port
 
 -- `scheme://host`, then the port unless it is the scheme's own
 abbrev pub tuple_text : TupleOrigin → List ℕ
-tuple_text o = scheme_text o.scheme ++ codes "://" ++ o.host
-    ++ (if o.port == default_port_of o.scheme then [] else codes ":" ++ decimal o.port)
+tuple_text o = plain_text o.scheme o.host ++ port_text o.scheme o.port
+
+-- the text of a site with this scheme and host: `scheme://host`, or of an isolated origin `=` and the text of that tuple
+abbrev pub site_text_by : Scheme → List ℕ → Option ℕ → List ℕ
+site_text_by scheme host None = plain_text scheme host
+site_text_by scheme host (Some port) = codes "=" ++ tuple_text (record { scheme = scheme; host = host; port = port })
+
+-- the text of a site
+abbrev pub site_text : Site → List ℕ
+site_text site = site_text_by site.scheme site.host site.only
 
 abbrev pub same_scheme : Scheme → Scheme → Bool
 same_scheme Http Http = true
@@ -54,8 +67,16 @@ same_scheme Http Https = false
 same_scheme Https Http = false
 same_scheme Https Https = true
 
+-- both are of one isolated origin's port, or neither is of an isolated origin
+abbrev pub same_only : Option ℕ → Option ℕ → Bool
+same_only None None = true
+same_only None (Some b) = false
+same_only (Some a) None = false
+same_only (Some a) (Some b) = a == b
+
+-- equal scheme and host, and both of one isolated origin or neither of any
 abbrev pub equal_sites : Site → Site → Bool
-equal_sites a b = same_scheme a.scheme b.scheme && bytes_eq a.host b.host
+equal_sites a b = same_scheme a.scheme b.scheme && bytes_eq a.host b.host && same_only a.only b.only
 
 abbrev pub equal_tuples : TupleOrigin → TupleOrigin → Bool
 equal_tuples a b = same_scheme a.scheme b.scheme && bytes_eq a.host b.host && (a.port == b.port)

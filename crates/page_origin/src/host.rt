@@ -1,7 +1,8 @@
-ghost use Rattle.std.specs.Prelude.{◌≡◌, true, IfOk, string_bytes};
+ghost use Rattle.std.specs.Prelude.{◌≡◌, true, false, Err, IfOk, string_bytes};
 ghost use Rattle.page_origin.specs.HostSpelling.{is_host};
 
 use crate::memory::NoMemory;
+use crate::text_bytes::{TextRefusal, is_host, text_copy};
 use std::alloc::Global;
 use std::marker::Model;
 
@@ -29,6 +30,19 @@ impl HostText {
         ensures { result ≡ string_bytes text }
     {
         HostText { text }
+    }
+
+    /// The host that bytes spell, an address in brackets or a name.
+    #[tactic(auto, using(crate::proofs::Spellings::host_is_text))]
+    pub fn from_bytes(alloc: Global, text: &[u8]) -> Result<Self, TextRefusal>
+        ensures ok { IfOk result (λ host. host ≡ text.now) }
+        ensures host { IfOk result (λ host. is_host text.now ≡ true) }
+        ensures bad { result ≡ Err TextRefusal.BadText → is_host text.now ≡ false }
+    {
+        if !is_host(text) {
+            return Err(TextRefusal::BadText);
+        }
+        Ok(HostText::new(text_copy(alloc, text)?))
     }
 
     pub fn as_str(&self) -> &str

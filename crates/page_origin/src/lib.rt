@@ -13,6 +13,7 @@ mod origin_spelling;
 mod page;
 mod parts;
 mod site;
+mod text_bytes;
 mod tuple;
 mod url_text;
 
@@ -23,7 +24,8 @@ pub use origin::{OpaqueOrigin, Origin, TupleOrigin, equal_origins, same_origin};
 pub use origin_spelling::{OriginText, origin_text};
 pub use page::{PageUrl, UrlRefusal, join_url, page_url};
 pub use site::{Scheme, Site, equal_sites};
-pub use tuple::{has_origin, tuple_of};
+pub use text_bytes::TextRefusal;
+pub use tuple::{has_origin, same_tuple, tuple_of};
 pub use url_text::UrlText;
 
 #[cfg(test)]

@@ -1,6 +1,6 @@
 //! The texts of origins.
 
-ghost use Rattle.std.specs.Prelude.{◌≡◌, IfOk, string_bytes};
+ghost use Rattle.std.specs.Prelude.{◌≡◌, IfOk, codes, string_bytes};
 ghost use Rattle.page_origin.specs.Origins as origins;
 
 use crate::memory::NoMemory;
@@ -24,6 +24,14 @@ impl Model for OriginText {
 }
 
 impl OriginText {
+    /// The text `null`, which every opaque origin has.
+    pub fn null(alloc: Global) -> Result<Self, NoMemory>
+        ensures { IfOk result (λ text. text ≡ codes "null") }
+    {
+        let text = String::from_str(alloc, "null")?;
+        Ok(OriginText { text })
+    }
+
     pub fn as_str(&self) -> &str
         ensures { result.now ≡ self.now }
     {
@@ -70,9 +78,11 @@ fn tuple_text(alloc: Global, tuple: &TupleOrigin) -> Result<String, AllocError>
 pub fn origin_text(alloc: Global, origin: &Origin) -> Result<OriginText, NoMemory>
     ensures { IfOk result (λ text. text ≡ origins.origin_text origin.now) }
 {
-    let text = match origin {
-        Origin::Tuple(tuple) => tuple_text(alloc, tuple)?,
-        Origin::Opaque(_) => String::from_str(alloc, "null")?,
-    };
-    Ok(OriginText { text })
+    match origin {
+        Origin::Tuple(tuple) => {
+            let text = tuple_text(alloc, tuple)?;
+            Ok(OriginText { text })
+        }
+        Origin::Opaque(_) => OriginText::null(alloc),
+    }
 }

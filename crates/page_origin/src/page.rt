@@ -8,8 +8,9 @@ ghost use Rattle.page_origin.specs.Origins as origins;
 
 use crate::class::UrlClass;
 use crate::memory::NoMemory;
-use crate::parts::{class_of_url, host_of_url, is_printable, refusal, scheme_of_url, text_of_url};
+use crate::parts::{class_of_url, host_of_url, refusal, scheme_of_url, text_of_url};
 use crate::site::Scheme;
+use crate::text_bytes::is_printable;
 use std::alloc::Global;
 use std::marker::Model;
 use thiserror::Error;
@@ -28,7 +29,7 @@ pub enum UrlRefusal {
     #[error("the text is no URL")]
     BadUrl,
     /// Memory ran out.
-    #[error("memory ran out")]
+    #[error("{}", crate::memory::NoMemory)]
     NoMemory,
 }
 
@@ -59,7 +60,7 @@ fn admit(url: Url) -> Result<PageUrl, UrlRefusal>
     if text_of_url(&url).len() > MAX_LENGTH {
         return Err(UrlRefusal::TooLong);
     }
-    if !is_printable(text_of_url(&url)) {
+    if !is_printable(text_of_url(&url).as_bytes()) {
         return Err(UrlRefusal::BadUrl);
     }
     Ok(PageUrl { url })

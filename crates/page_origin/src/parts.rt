@@ -1,10 +1,8 @@
 //! What the crate `url` says of a URL, in the words of this crate.
 
 ghost use Rattle.std.specs.Prelude.{◌≡◌};
-ghost use Rattle.std.specs.List.{list_all};
 ghost use Rattle.url.specs.Host.{host_text};
 ghost use Rattle.url.specs.Parts.{host_or_empty};
-ghost use Rattle.page_origin.specs.UrlText.{is_printable};
 ghost use Rattle.page_origin.specs.PageUrls.{url_text, class_of_parts};
 ghost use Rattle.page_origin.specs.Origins.{scheme_of_parts};
 ghost use Rattle.page_origin.specs.Refusals.{refusal_of};
@@ -21,17 +19,8 @@ pub fn text_of_url(url: &Url) -> &str
     url.as_str()
 }
 
-/// Whether a text has bytes from space to tilde alone.
-pub fn is_printable(text: &str) -> bool
-    ensures { result ≡ list_all is_printable text.now }
-{
-    text.as_bytes()
-        .iter()
-        .all(|byte| *byte >= b' ' && *byte <= b'~')
-}
-
-/// Whether parsing ran out of memory, or the text is no URL. An overflow, which only a text of 4 GB has, is told as the
-/// first.
+/// Whether parsing ran out of memory, or the text is no URL. An overflow, whose cause the crate `url` doesn't name, is told
+/// as the first.
 pub fn refusal(error: ParseError) -> UrlRefusal
     ensures { result ≡ refusal_of error }
 {

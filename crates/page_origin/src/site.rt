@@ -11,11 +11,13 @@ pub enum Scheme {
     Https,
 }
 
-/// A scheme with a host. The port does not count.
+/// A scheme with a host, which is shared by all ports and subdomains; or one isolated origin, which is alone.
 #[derive(Drop, PartialEq)]
 pub struct Site {
     pub scheme: Scheme,
     pub host: HostText,
+    /// The port of an isolated origin, and none of a site of any other origin.
+    pub only: Option<u16>,
 }
 
 impl Site {
@@ -25,6 +27,7 @@ impl Site {
         Ok(Site {
             scheme: self.scheme,
             host: self.host.copy(alloc)?,
+            only: self.only,
         })
     }
 }

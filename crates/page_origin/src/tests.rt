@@ -2,9 +2,9 @@ ghost use Rattle.std.specs.Prelude.{◌≡◌, IfOk};
 ghost use Rattle.page_origin.specs.PageUrls.{class_of};
 
 use crate::{
-    NoMemory, OpaqueOrigin, Origin, PageUrl, Scheme, Site, TupleOrigin, UrlClass, UrlRefusal,
-    UrlText, equal_origins, equal_sites, has_origin, join_url, origin_text, page_url, same_origin,
-    tuple_of,
+    HostText, NoMemory, OpaqueOrigin, Origin, OriginText, PageUrl, Scheme, Site, TextRefusal,
+    TupleOrigin, UrlClass, UrlRefusal, UrlText, equal_origins, equal_sites, has_origin, join_url,
+    origin_text, page_url, same_origin, same_tuple, tuple_of,
 };
 use std::alloc::Global;
 use std::process::Abort;
@@ -14,9 +14,12 @@ const CLASSES: &[(&str, UrlClass, &str)] = &[
     ("https://a.com/x?y#z", UrlClass::Web, "https://a.com/x?y"),
     ("HTTP://A.com:80", UrlClass::Web, "http://a.com/"),
     ("about:blank#x", UrlClass::AboutBlank, "about:blank"),
+    ("about:blank?x#y", UrlClass::AboutBlank, "about:blank?x"),
+    ("about:blanks", UrlClass::Foreign, "about:blanks"),
     ("about:srcdoc", UrlClass::AboutSrcdoc, "about:srcdoc"),
     ("about:version", UrlClass::Foreign, "about:version"),
     ("data:,x#y", UrlClass::DataUrl, "data:,x"),
+    ("data:,a b", UrlClass::DataUrl, "data:,a b"),
     ("file:///x", UrlClass::Foreign, "file:///x"),
     ("ws://a.com/", UrlClass::Foreign, "ws://a.com/"),
 ];
@@ -98,8 +101,39 @@ fn joins(rt: HostRuntime) -> Result<(), Fail> {
         let url = join_url(rt.alloc(), &base, text)?;
         assert!(rt; url.text() == *joined, "{text}");
     }
-    let refused = join_url(rt.alloc(), &base, "//a b/").err() == Some(UrlRefusal::BadUrl);
-    assert!(rt; refused);
+    Ok(())
+}
+
+fn is_refused_join(base: &PageUrl, alloc: Global, text: &str, refusal: UrlRefusal) -> bool
+    requires { class_of base.now ≡ UrlClass.Web }
+{
+    join_url(alloc, base, text).err() == Some(refusal)
+}
+
+#[test]
+fn refused_joins(rt: HostRuntime) -> Result<(), Fail> {
+    let alloc = rt.alloc();
+    let base = web_url(&rt, alloc, "https://a.com/1/2")?;
+    assert!(rt; is_refused_join(&base, alloc, "//a b/", UrlRefusal::BadUrl));
+    // 2,049 bytes that name the URL of 14 bytes `https://a.com/`.
+    let mut dots = String::from_str(alloc, "/")?;
+    for _ in 0..1024 {
+        dots.push_str("./")?;
+    }
+    assert!(rt; is_refused_join(&base, alloc, dots.as_str(), UrlRefusal::TooLong));
+    let long = padded(alloc, "/", 'x', 2035)?;
+    assert!(rt; is_refused_join(&base, alloc, long.as_str(), UrlRefusal::TooLong));
+    Ok(())
+}
+
+#[test]
+fn longest_join(rt: HostRuntime) -> Result<(), Fail> {
+    let base = web_url(&rt, rt.alloc(), "https://a.com/1/2")?;
+    let text = padded(rt.alloc(), "/", 'x', 2034)?;
+    assert_eq!(rt;
+        join_url(rt.alloc(), &base, text.as_str())?.text().len(),
+        2048
+    );
     Ok(())
 }
 
@@ -159,12 +193,43 @@ fn tuple(rt: &impl Abort, alloc: Global, text: &str) -> Result<TupleOrigin, Fail
     Ok(tuple_of(alloc, &url)?)
 }
 
+const TUPLE_PAIRS: &[(&str, &str, bool)] = &[
+    ("https://a.com/", "https://a.com:443/x", true),
+    ("http://a.com/", "http://a.com:80/", true),
+    ("https://a.com/", "https://a.com:8443/", false),
+    ("https://a.com:80/", "http://a.com/", false),
+    ("https://a.com/", "https://b.com/", false),
+    ("https://a.com/", "https://www.a.com/", false),
+];
+
+#[test]
+fn tuples_of_two_urls(rt: HostRuntime) -> Result<(), Fail> {
+    for (a, b, same) in TUPLE_PAIRS {
+        let first = web_url(&rt, rt.alloc(), a)?;
+        let second = web_url(&rt, rt.alloc(), b)?;
+        assert!(rt; same_tuple(&first, &second) == *same, "{a} {b}");
+    }
+    Ok(())
+}
+
+#[test]
+fn same_origins_of_tuples(rt: HostRuntime) -> Result<(), Fail> {
+    for (a, b, same) in TUPLE_PAIRS {
+        let first = web(&rt, rt.alloc(), a)?;
+        let second = web(&rt, rt.alloc(), b)?;
+        assert!(rt; same_origin(&first, &second) == *same, "{a} {b}");
+        assert!(rt; equal_origins(&first, &second) == *same, "{a} {b}");
+    }
+    Ok(())
+}
+
 /// An opaque origin that comes from the site of a URL's host.
 fn opaque(rt: &impl Abort, alloc: Global, document: u32, text: &str) -> Result<Origin, Fail> {
     let tuple = tuple(rt, alloc, text)?;
     let precursor = Site {
         scheme: tuple.scheme,
         host: tuple.host,
+        only: None,
     };
     Ok(Origin::Opaque(OpaqueOrigin {
         document,
@@ -220,12 +285,143 @@ fn copies_of_origins(rt: HostRuntime) -> Result<(), Fail> {
 
 #[test]
 fn copies_of_sites(rt: HostRuntime) -> Result<(), Fail> {
-    let tuple = tuple(&rt, rt.alloc(), "https://a.com/")?;
-    let site = Site {
-        scheme: Scheme::Https,
+    for only in [None, Some(443), Some(8443)] {
+        let site = site(&rt, rt.alloc(), "https://a.com/", only)?;
+        let copied = site.copy(rt.alloc())?;
+        assert!(rt; equal_sites(&site, &copied));
+    }
+    Ok(())
+}
+
+/// The site with a URL's scheme and host, or with its host the isolated origin of a port.
+fn site(rt: &impl Abort, alloc: Global, text: &str, only: Option<u16>) -> Result<Site, Fail> {
+    let tuple = tuple(rt, alloc, text)?;
+    Ok(Site {
+        scheme: tuple.scheme,
         host: tuple.host,
-    };
-    let copied = site.copy(rt.alloc())?;
-    assert!(rt; equal_sites(&site, &copied));
+        only,
+    })
+}
+
+const SITE_PAIRS: &[(&str, Option<u16>, &str, Option<u16>, bool)] = &[
+    ("https://a.com/", None, "https://a.com/", None, true),
+    ("https://a.com/", None, "http://a.com/", None, false),
+    ("https://a.com/", None, "https://b.com/", None, false),
+    (
+        "https://a.com/",
+        Some(443),
+        "https://a.com/",
+        Some(443),
+        true,
+    ),
+    ("https://a.com/", Some(443), "https://a.com/", None, false),
+    ("https://a.com/", None, "https://a.com/", Some(443), false),
+    (
+        "https://a.com/",
+        Some(443),
+        "https://a.com/",
+        Some(8443),
+        false,
+    ),
+    (
+        "https://a.com/",
+        Some(443),
+        "http://a.com/",
+        Some(443),
+        false,
+    ),
+];
+
+#[test]
+fn equal_and_other_sites(rt: HostRuntime) -> Result<(), Fail> {
+    for (a, only_a, b, only_b, equal) in SITE_PAIRS {
+        let first = site(&rt, rt.alloc(), a, *only_a)?;
+        let second = site(&rt, rt.alloc(), b, *only_b)?;
+        assert!(rt; equal_sites(&first, &second) == *equal, "{a} {b}");
+    }
+    Ok(())
+}
+
+const HOSTS: &[(&[u8], bool)] = &[
+    (b"a.com", true),
+    (b"a_b-c.com.", true),
+    (b"!", true),
+    (b"127.0.0.1", true),
+    (b"[::1]", true),
+    (b"[2001:db8::192.0.2.1]", true),
+    (b"[aF09]", true),
+    (b"", false),
+    (b"[]", false),
+    (b"[::1", false),
+    (b"[::g]", false),
+    (b"[::1]x", false),
+    (b"::1]", false),
+    (b"a b", false),
+    (b"a/b", false),
+    (b"a:80", false),
+    (b"a[b", false),
+    (b"a]b", false),
+    (b"a\x7f", false),
+    (b"\xc3\xbc", false),
+];
+
+#[test]
+fn hosts_of_bytes(rt: HostRuntime) {
+    for (bytes, is_host) in HOSTS {
+        let refused = HostText::from_bytes(rt.alloc(), bytes).err() == Some(TextRefusal::BadText);
+        assert!(rt; refused != *is_host);
+    }
+}
+
+const URL_TEXTS: &[(&[u8], bool)] = &[
+    (b"https://a.com/", true),
+    (b" ", true),
+    (b"~", true),
+    (b"", false),
+    (b"a\x1fb", false),
+    (b"a\x7fb", false),
+    (b"\xc3\xbc", false),
+];
+
+#[test]
+fn url_texts_of_bytes(rt: HostRuntime) {
+    for (bytes, is_url) in URL_TEXTS {
+        let refused = UrlText::from_bytes(rt.alloc(), bytes).err() == Some(TextRefusal::BadText);
+        assert!(rt; refused != *is_url);
+    }
+}
+
+#[test]
+fn texts_of_bytes(rt: HostRuntime) -> Result<(), Fail> {
+    let host = HostText::from_bytes(rt.alloc(), b"[::1]")?;
+    assert!(rt; host.as_str() == "[::1]");
+    let url = UrlText::from_bytes(rt.alloc(), b"about:blank")?;
+    assert!(rt; url.as_str() == "about:blank");
+    let null = OriginText::null(rt.alloc())?;
+    assert!(rt; null.as_str() == "null");
+    Ok(())
+}
+
+fn printed(alloc: Global, refusal: UrlRefusal) -> Result<String, Fail> {
+    Ok(format!(in alloc; "{refusal}")?)
+}
+
+#[test]
+fn texts_of_refusals(rt: HostRuntime) -> Result<(), Fail> {
+    let rows = [
+        (UrlRefusal::TooLong, "the URL has more than 2048 bytes"),
+        (UrlRefusal::BadUrl, "the text is no URL"),
+        (UrlRefusal::NoMemory, "memory ran out"),
+    ];
+    for (refusal, text) in rows {
+        assert!(rt; printed(rt.alloc(), refusal)?.as_str() == text);
+    }
+    let memory = NoMemory;
+    assert!(rt; format!(in rt.alloc(); "{memory}")?.as_str() == "memory ran out");
+    let text = TextRefusal::BadText;
+    assert!(rt;
+        format!(in rt.alloc(); "{text}")?.as_str()
+            == "the text is not spelled as a history spells it"
+    );
     Ok(())
 }

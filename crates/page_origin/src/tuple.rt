@@ -31,6 +31,15 @@ fn is_tuple_of(url: &PageUrl, tuple: &TupleOrigin) -> bool
     tuple.scheme == url.scheme() && tuple.host.as_str() == url.host() && tuple.port == url.port()
 }
 
+/// Whether two URLs of class [`UrlClass::Web`] have one tuple origin. This takes no memory.
+pub fn same_tuple(a: &PageUrl, b: &PageUrl) -> bool
+    requires a { class_of a.now ≡ UrlClass.Web }
+    requires b { class_of b.now ≡ UrlClass.Web }
+    ensures { result ≡ origins.equal_tuples (origins.tuple_of a.now) (origins.tuple_of b.now) }
+{
+    a.scheme() == b.scheme() && a.host() == b.host() && a.port() == b.port()
+}
+
 /// Whether an origin is the tuple origin of a URL of class [`UrlClass::Web`]. This takes no memory.
 pub fn has_origin(url: &PageUrl, origin: &Origin) -> bool
     requires { class_of url.now ≡ UrlClass.Web }

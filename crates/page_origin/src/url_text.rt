@@ -1,8 +1,9 @@
-ghost use Rattle.std.specs.Prelude.{◌≡◌, true, IfOk, string_bytes};
+ghost use Rattle.std.specs.Prelude.{◌≡◌, true, false, Err, IfOk, string_bytes};
 ghost use Rattle.page_origin.specs.UrlText.{is_url_spelling};
 
 use crate::memory::NoMemory;
 use crate::page::PageUrl;
+use crate::text_bytes::{TextRefusal, is_url_spelling, text_copy};
 use std::alloc::Global;
 use std::marker::Model;
 
@@ -30,6 +31,19 @@ impl UrlText {
         ensures { result ≡ string_bytes text }
     {
         UrlText { text }
+    }
+
+    /// The URL's text that bytes are.
+    #[tactic(auto, using(crate::proofs::Spellings::url_is_text))]
+    pub fn from_bytes(alloc: Global, text: &[u8]) -> Result<Self, TextRefusal>
+        ensures ok { IfOk result (λ url. url ≡ text.now) }
+        ensures url { IfOk result (λ url. is_url_spelling text.now ≡ true) }
+        ensures bad { result ≡ Err TextRefusal.BadText → is_url_spelling text.now ≡ false }
+    {
+        if !is_url_spelling(text) {
+            return Err(TextRefusal::BadText);
+        }
+        Ok(UrlText::new(text_copy(alloc, text)?))
     }
 
     /// The text of a page's URL.
