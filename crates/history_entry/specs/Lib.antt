@@ -1,2 +1,3 @@
 pub mod RuleText
 pub mod Kinds
+pub mod CarriedRules

@@ -1,4 +1,5 @@
 ghost use Rattle.std.specs.Prelude.{◌≡◌, IfOk};
+ghost use Rattle.history_entry.specs.CarriedRules.{carried_rule, end_rule};
 ghost use Rattle.history_entry.specs.Kinds.{kind_of};
 
 use crate::body::Message;
@@ -85,6 +86,18 @@ pub enum EntryKind {
     Exit,
 }
 
+impl EndHow {
+    /// The rule by which the request was blocked or failed, if it was.
+    pub fn rule(self) -> Option<Rule>
+        ensures { result ≡ end_rule self }
+    {
+        match self {
+            EndHow::Whole => None,
+            EndHow::Blocked(rule) | EndHow::Failed(rule) => Some(rule),
+        }
+    }
+}
+
 impl LocalWhat {
     pub fn copy(&self, alloc: Global) -> Result<Self, NoMemory>
         ensures { IfOk result (λ copy. copy ≡ self.now) }
@@ -118,6 +131,18 @@ impl Entry {
             Entry::Piece(..) => EntryKind::Piece,
             Entry::End(..) => EntryKind::End,
             Entry::Exit(_) => EntryKind::Exit,
+        }
+    }
+
+    /// The rule that the entry carries: of its reply, its verdict or its end.
+    pub fn rule(&self) -> Option<Rule>
+        ensures { result ≡ carried_rule self.now }
+    {
+        match self {
+            Entry::NavEnd(_, rule) | Entry::Head(_, rule) => Some(*rule),
+            Entry::Said(.., reply) | Entry::Commit(.., reply) => reply.rule(),
+            Entry::End(_, how) => how.rule(),
+            _ => None,
         }
     }
 

@@ -22,13 +22,18 @@ fn equal_hops(a: &HopOf, b: &HopOf) -> bool
     a == b
 }
 
-pub fn equal_ends(a: &EndHow, b: &EndHow) -> bool
+fn equal_ends(a: &EndHow, b: &EndHow) -> bool
     ensures { IsTrue result ↔ (a.now ≡ b.now) }
 {
-    a == b
+    match (a, b) {
+        (EndHow::Whole, EndHow::Whole) => true,
+        (EndHow::Blocked(x), EndHow::Blocked(y)) => equal_rules(x, y),
+        (EndHow::Failed(x), EndHow::Failed(y)) => equal_rules(x, y),
+        _ => false,
+    }
 }
 
-pub fn equal_sources(a: &Src, b: &Src) -> bool
+fn equal_sources(a: &Src, b: &Src) -> bool
     ensures { IsTrue result ↔ (a.now ≡ b.now) }
 {
     a == b
@@ -64,7 +69,7 @@ fn equal_pieces(a: &PieceBytes, b: &PieceBytes) -> bool
     a == b
 }
 
-pub fn equal_targets(a: &Target, b: &Target) -> bool
+fn equal_targets(a: &Target, b: &Target) -> bool
     ensures { IsTrue result ↔ (a.now ≡ b.now) }
 {
     match (a, b) {
@@ -75,7 +80,7 @@ pub fn equal_targets(a: &Target, b: &Target) -> bool
     }
 }
 
-pub fn equal_bodies(a: &Body, b: &Body) -> bool
+fn equal_bodies(a: &Body, b: &Body) -> bool
     ensures { IsTrue result ↔ (a.now ≡ b.now) }
 {
     match (a, b) {
@@ -157,13 +162,13 @@ pub fn equal_bodies(a: &Body, b: &Body) -> bool
     }
 }
 
-pub fn equal_messages(a: &Message, b: &Message) -> bool
+fn equal_messages(a: &Message, b: &Message) -> bool
     ensures { IsTrue result ↔ (a.now ≡ b.now) }
 {
     a.document == b.document && equal_bodies(&a.body, &b.body)
 }
 
-pub fn equal_replies(a: &Reply, b: &Reply) -> bool
+fn equal_replies(a: &Reply, b: &Reply) -> bool
     ensures { IsTrue result ↔ (a.now ≡ b.now) }
 {
     match (a, b) {
@@ -176,7 +181,7 @@ pub fn equal_replies(a: &Reply, b: &Reply) -> bool
     }
 }
 
-pub fn equal_locals(a: &LocalWhat, b: &LocalWhat) -> bool
+fn equal_locals(a: &LocalWhat, b: &LocalWhat) -> bool
     ensures { IsTrue result ↔ (a.now ≡ b.now) }
 {
     match (a, b) {

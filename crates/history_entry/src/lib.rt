@@ -10,17 +10,16 @@ mod entry;
 mod equal;
 mod piece;
 mod plain_text;
+mod policy;
 mod reply;
 mod rule;
 mod text;
 
 pub use body::{Body, Message, Mode, Src, Target};
 pub use entry::{EndHow, Entry, EntryKind, HopOf, LocalWhat};
-pub use equal::{
-    equal_bodies, equal_ends, equal_entries, equal_locals, equal_messages, equal_replies,
-    equal_sources, equal_targets,
-};
+pub use equal::equal_entries;
 pub use piece::PieceBytes;
+pub use policy::Policy;
 pub use reply::Reply;
 pub use rule::Rule;
 pub use text::{RawUrl, RequestText, ServiceName};

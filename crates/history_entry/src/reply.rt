@@ -1,4 +1,5 @@
 ghost use Rattle.std.specs.Prelude.{◌≡◌, IfOk};
+ghost use Rattle.history_entry.specs.CarriedRules.{reply_rule};
 
 use crate::rule::Rule;
 use crate::text::RequestText;
@@ -20,6 +21,16 @@ pub enum Reply {
 }
 
 impl Reply {
+    /// The rule by which the message was refused, if it was.
+    pub fn rule(&self) -> Option<Rule>
+        ensures { result ≡ reply_rule self.now }
+    {
+        match self {
+            Reply::Ok | Reply::Answer(_) => None,
+            Reply::Deny(rule) | Reply::Drop(rule) | Reply::Kill(rule) => Some(*rule),
+        }
+    }
+
     pub fn copy(&self, alloc: Global) -> Result<Self, NoMemory>
         ensures { IfOk result (λ copy. copy ≡ self.now) }
     {

@@ -73,9 +73,9 @@ pub enum Rule {
     A2,
     /// The chain has the site of the request's tuple origin.
     A3,
-    /// A kind that is not protected.
+    /// Kind Css or Other, whose body is found to be nothing that blocks it.
     A4,
-    /// A protected kind or plain text that its body does not confirm.
+    /// A protected kind or plain text, whose body does not confirm it.
     A5,
     /// The CORS check fails.
     B1,
@@ -89,8 +89,10 @@ pub enum Rule {
     B5,
     /// The body is JSON.
     B6,
-    /// The body begins with a prefix that keeps scripts from running it.
+    /// The body, of a kind other than Css, begins with a prefix that keeps it from running as a script.
     B7,
+    /// The response's resource policy leaves out the request's origin.
+    B8,
 }
 
 impl Rule {
@@ -142,6 +144,7 @@ impl Rule {
             Rule::B5 => "B5",
             Rule::B6 => "B6",
             Rule::B7 => "B7",
+            Rule::B8 => "B8",
         }
     }
 }

@@ -3,7 +3,7 @@ use thiserror::Error;
 
 /// Memory ran out.
 #[derive(Clone, Copy, Debug, PartialEq, Eq, Error)]
-#[error("memory ran out")]
+#[error("no memory")]
 pub struct NoMemory;
 
 impl From<AllocError> for NoMemory {

@@ -411,13 +411,13 @@ fn texts_of_refusals(rt: HostRuntime) -> Result<(), Fail> {
     let rows = [
         (UrlRefusal::TooLong, "the URL has more than 2048 bytes"),
         (UrlRefusal::BadUrl, "the text is no URL"),
-        (UrlRefusal::NoMemory, "memory ran out"),
+        (UrlRefusal::NoMemory, "no memory"),
     ];
     for (refusal, text) in rows {
         assert!(rt; printed(rt.alloc(), refusal)?.as_str() == text);
     }
     let memory = NoMemory;
-    assert!(rt; format!(in rt.alloc(); "{memory}")?.as_str() == "memory ran out");
+    assert!(rt; format!(in rt.alloc(); "{memory}")?.as_str() == "no memory");
     let text = TextRefusal::BadText;
     assert!(rt;
         format!(in rt.alloc(); "{text}")?.as_str()

@@ -1,19 +1,22 @@
 -- The verdict of read blocking: whether the document that made a request may read its response, and by which row of one
--- table; the first row that applies decides. Own table, after Chromium's explainer of Cross-Origin Read Blocking (CORB) and
--- the CORS check of the Fetch Standard. A body is judged as one whole list of bytes.
-use Rattle.std.specs.Prelude.{ℕ, Bool, true, false, ◌==◌, ◌&&◌, Option, Some, None, List, if◌then◌else◌}
+-- table; the first row that applies decides. Own table, after Chromium's explainer of Cross-Origin Read Blocking (CORB), and
+-- the CORS check and the header `Cross-Origin-Resource-Policy` of the Fetch Standard. A body is judged as one whole list of
+-- bytes. Row B8 stands in the second policy alone.
+use Rattle.std.specs.Prelude.{ℕ, Bool, true, false, not, ◌==◌, ◌&&◌, Option, Some, None, List, if◌then◌else◌}
 use Rattle.std.specs.List.{list_all}
 use Rattle.std.specs.Option.{option_or}
-use Rattle.public_suffix.specs.RegistrableDomain.{SuffixRule}
 use Rattle.page_origin.specs.declared.origin.Origin.{Origin}
 use Rattle.page_origin.specs.declared.origin.Origin.TheVariants.{Tuple, Opaque}
 use Rattle.page_origin.specs.Origins.{equal_sites}
-use Rattle.site_url.specs.Sites.{site_of, site_of_origin}
+use Rattle.site_url.specs.Sites.{SiteRuleData, site_of, site_of_origin}
 use Rattle.mime_kind.specs.declared.head.Head.{Head}
 use Rattle.mime_kind.specs.declared.kind.Kind.{Kind}
 use Rattle.mime_kind.specs.declared.kind.Kind.TheVariants.{Html, Xml, Json, Plain, Css, Other}
 use Rattle.mime_kind.specs.Kinds.{kind_of}
 use Rattle.mime_kind.specs.Nosniff.{nosniff}
+use Rattle.mime_kind.specs.declared.policy.ResourcePolicy.{ResourcePolicy}
+use Rattle.mime_kind.specs.declared.policy.ResourcePolicy.TheVariants as resource
+use Rattle.mime_kind.specs.ResourcePolicies.{resource_policy}
 use Rattle.corb_sniff.specs.declared.kind.SniffKind.{SniffKind}
 use Rattle.corb_sniff.specs.declared.kind.SniffKind.TheVariants as sniffed_as
 use Rattle.corb_sniff.specs.declared.kind.Sniffed.{Sniffed}
@@ -24,10 +27,13 @@ use Rattle.corb_sniff.specs.Answers.{answer_of}
 use Rattle.cors_check.specs.declared.answer.Cors.{Cors}
 use Rattle.cors_check.specs.declared.answer.Cors.TheVariants.{SameOrigin, Passed, Failed}
 use Rattle.cors_check.specs.Cors.{cors}
+use Rattle.cors_check.specs.Chains.{is_same_origin_chain}
 use Rattle.history_entry.specs.declared.body.Mode.{Mode}
 use Rattle.history_entry.specs.declared.body.Mode.TheVariants as modes
+use Rattle.history_entry.specs.declared.policy.Policy.{Policy}
+use Rattle.history_entry.specs.declared.policy.Policy.TheVariants.{One, Two}
 use Rattle.history_entry.specs.declared.rule.Rule.{Rule}
-use Rattle.history_entry.specs.declared.rule.Rule.TheVariants.{A1, A2, A3, A4, A5, B1, B2, B3, B4, B5, B6, B7}
+use Rattle.history_entry.specs.declared.rule.Rule.TheVariants.{A1, A2, A3, A4, A5, B1, B2, B3, B4, B5, B6, B7, B8}
 use Rattle.script_model.specs.declared.verdict.Verdict.{Verdict}
 use Rattle.script_model.specs.declared.verdict.Verdict.TheVariants.{Allow, Block}
 
@@ -48,9 +54,21 @@ is_tuple (Tuple o) = true
 is_tuple (Opaque o) = false
 
 -- the origin is a tuple, and every URL of the chain has its site
-unfoldable pub is_same_site_chain : List SuffixRule → Origin → List (List ℕ) → Bool
+unfoldable pub is_same_site_chain : SiteRuleData → Origin → List (List ℕ) → Bool
 is_same_site_chain rules origin chain =
     is_tuple origin && list_all (λ url. equal_sites (site_of rules url) (site_of_origin rules origin)) chain
+
+-- the resource policy leaves the request out: one of its own origin alone, where some URL of the chain has not the request's
+-- origin; one of its own site alone, where the chain does not stay in the site of a tuple origin
+abbrev pub leaves_out : SiteRuleData → Origin → List (List ℕ) → ResourcePolicy → Bool
+leaves_out rules origin chain resource.Any = false
+leaves_out rules origin chain resource.SameOrigin = not (is_same_origin_chain origin chain)
+leaves_out rules origin chain resource.SameSite = not (is_same_site_chain rules origin chain)
+
+-- row B8, under the second policy: the response's resource policy leaves the request out
+unfoldable pub is_left_out : Policy → SiteRuleData → Origin → List (List ℕ) → Head → Bool
+is_left_out One rules origin chain head = false
+is_left_out Two rules origin chain head = leaves_out rules origin chain (resource_policy head.fields)
 
 -- the protected kinds: what pages of other sites are not to read
 abbrev pub is_protected : Kind → Bool
@@ -114,19 +132,22 @@ unfoldable pub body_verdict : Head → List ℕ → Bool → Option Verdict
 body_verdict head bytes ended = option_or (head_verdict head) (bytes_verdict (kind_of head.fields) bytes ended)
 
 -- the verdict on a request's response, of which these bytes have come, or none where they don't settle it yet: in mode cors
--- that of the CORS check; else A3 where the chain stays in the site of a tuple origin; else the part from B2 on
-unfoldable pub verdict : List SuffixRule → Origin → List (List ℕ) → Mode → Head → List ℕ → Bool → Option Verdict
-verdict rules origin chain mode head bytes ended =
+-- that of the CORS check; else B8 where the resource policy leaves it out; else A3 where the chain stays in the site of a
+-- tuple origin; else the part from B2 on
+unfoldable pub verdict : Policy → SiteRuleData → Origin → List (List ℕ) → Mode → Head → List ℕ → Bool → Option Verdict
+verdict policy rules origin chain mode head bytes ended =
     if is_cors mode then Some (cors_verdict (cors origin chain head.fields))
+    else (if is_left_out policy rules origin chain head then Some (Block B8)
     else (if is_same_site_chain rules origin chain then Some (Allow A3)
-    else body_verdict head bytes ended)
+    else body_verdict head bytes ended))
 
--- the verdict by the rows that need no byte of the body: A1, A2, B1, A3, B2 and B3
-unfoldable pub early_verdict : List SuffixRule → Origin → List (List ℕ) → Mode → Head → Option Verdict
-early_verdict rules origin chain mode head =
+-- the verdict by the rows that need no byte of the body: A1, A2, B1, B8, A3, B2 and B3
+unfoldable pub early_verdict : Policy → SiteRuleData → Origin → List (List ℕ) → Mode → Head → Option Verdict
+early_verdict policy rules origin chain mode head =
     if is_cors mode then Some (cors_verdict (cors origin chain head.fields))
+    else (if is_left_out policy rules origin chain head then Some (Block B8)
     else (if is_same_site_chain rules origin chain then Some (Allow A3)
-    else head_verdict head)
+    else head_verdict head))
 
 -- the rules that allow
 abbrev pub is_allow_rule : Rule → Bool
@@ -146,6 +167,7 @@ is_block_rule B4 = true
 is_block_rule B5 = true
 is_block_rule B6 = true
 is_block_rule B7 = true
+is_block_rule B8 = true
 is_block_rule rule = false
 
 -- a verdict allows by a rule that allows, and blocks by one that blocks

@@ -1,20 +1,9 @@
-ghost use Rattle.std.specs.Prelude.{◌≡◌, IfOk};
-ghost use Rattle.page_origin.specs.PageUrls.{class_of};
-
-use crate::{same_site, site_of, site_of_origin};
-use page_origin::{OpaqueOrigin, Origin, PageUrl, Scheme, Site, UrlClass, page_url, tuple_of};
+use crate::{SiteRules, same_site, site_of, site_of_origin};
+use page_origin::{Origin, Scheme, Site};
 use public_suffix::Rules;
 use std::alloc::Global;
-use std::process::Abort;
 use std::test::Fail;
-
-fn web_url(rt: &impl Abort, alloc: Global, text: &str) -> Result<PageUrl, Fail>
-    ensures { IfOk result (λ url. class_of url ≡ UrlClass.Web) }
-{
-    let url = page_url(alloc, text)?;
-    assert!(rt; url.class() == UrlClass::Web, "{text}");
-    Ok(url)
-}
+use test_support::{opaque_origin, origin, tuple_origin, web_url};
 
 const SITES: &[(&str, Scheme, &str)] = &[
     ("https://co.uk/", Scheme::Https, "co.uk"),
@@ -33,28 +22,78 @@ const SITES: &[(&str, Scheme, &str)] = &[
     ),
 ];
 
+/// Site rules of a suffix text and the origins of these URLs.
+fn site_rules(alloc: Global, suffixes: &[u8], isolated: &[&str]) -> Result<SiteRules, Fail> {
+    let mut origins = Vec::new(alloc);
+    for url in isolated {
+        origins.push(tuple_origin(alloc, url)?)?;
+    }
+    Ok(SiteRules::new(Rules::read(alloc, suffixes)?, origins))
+}
+
+fn is_site(site: &Site, scheme: Scheme, host: &str, only: Option<u16>) -> bool {
+    site.scheme == scheme && site.host.as_str() == host && site.only == only
+}
+
 #[test]
 fn sites_of_urls(rt: HostRuntime) -> Result<(), Fail> {
-    let rules = Rules::read(rt.alloc(), b"co.uk\n*.ck\n!www.ck\n")?;
+    let rules = site_rules(rt.alloc(), b"co.uk\n*.ck\n!www.ck\n", &[])?;
     for (text, scheme, host) in SITES {
-        let url = web_url(&rt, rt.alloc(), text)?;
+        let url = web_url(rt.alloc(), text)?;
         let site = site_of(rt.alloc(), &rules, &url)?;
-        assert!(rt; site.scheme == *scheme, "{text}");
-        assert!(rt; site.host.as_str() == *host, "{text}");
+        assert!(rt; is_site(&site, *scheme, host, None), "{text}");
     }
     Ok(())
 }
 
-fn origin(rt: &impl Abort, alloc: Global, text: &str) -> Result<Origin, Fail> {
-    let url = web_url(rt, alloc, text)?;
-    Ok(Origin::Tuple(tuple_of(alloc, &url)?))
+const ISOLATED: &[&str] = &[
+    "https://pay.a.com/any/path",
+    "https://pay.a.com/again",
+    "https://pay.a.com:8443/",
+    "http://127.0.0.1:8080/",
+    "https://[::1]/",
+    "https://a.co.uk/",
+];
+
+const ISOLATED_SITES: &[(&str, Scheme, &str, Option<u16>)] = &[
+    ("https://pay.a.com/x", Scheme::Https, "pay.a.com", Some(443)),
+    (
+        "https://pay.a.com:8443/x",
+        Scheme::Https,
+        "pay.a.com",
+        Some(8443),
+    ),
+    ("https://pay.a.com:444/", Scheme::Https, "a.com", None),
+    ("http://pay.a.com/", Scheme::Http, "a.com", None),
+    ("http://pay.a.com:443/", Scheme::Http, "a.com", None),
+    ("https://sub.pay.a.com/", Scheme::Https, "a.com", None),
+    ("https://a.com/", Scheme::Https, "a.com", None),
+    (
+        "http://127.0.0.1:8080/",
+        Scheme::Http,
+        "127.0.0.1",
+        Some(8080),
+    ),
+    ("http://127.0.0.1/", Scheme::Http, "127.0.0.1", None),
+    ("https://[::1]/", Scheme::Https, "[::1]", Some(443)),
+    ("https://a.co.uk/", Scheme::Https, "a.co.uk", Some(443)),
+    ("https://www.a.co.uk/", Scheme::Https, "a.co.uk", None),
+];
+
+#[test]
+fn isolated_origins(rt: HostRuntime) -> Result<(), Fail> {
+    let rules = site_rules(rt.alloc(), b"co.uk\n", ISOLATED)?;
+    for (text, scheme, host, only) in ISOLATED_SITES {
+        let url = web_url(rt.alloc(), text)?;
+        let site = site_of(rt.alloc(), &rules, &url)?;
+        assert!(rt; is_site(&site, *scheme, host, *only), "{text}");
+    }
+    Ok(())
 }
 
-fn have_one_site(rt: &impl Abort, alloc: Global, a: &str, b: &str) -> Result<bool, Fail> {
-    let rules = Rules::read(alloc, b"co.uk\n")?;
-    let a = origin(rt, alloc, a)?;
-    let b = origin(rt, alloc, b)?;
-    Ok(same_site(&rules, &a, &b))
+fn have_one_site(alloc: Global, isolated: &[&str], a: &str, b: &str) -> Result<bool, Fail> {
+    let rules = site_rules(alloc, b"co.uk\n", isolated)?;
+    Ok(same_site(&rules, &origin(alloc, a)?, &origin(alloc, b)?))
 }
 
 const PAIRS: &[(&str, &str, bool)] = &[
@@ -71,24 +110,83 @@ const PAIRS: &[(&str, &str, bool)] = &[
 #[test]
 fn same_sites(rt: HostRuntime) -> Result<(), Fail> {
     for (a, b, same) in PAIRS {
-        let found = have_one_site(&rt, rt.alloc(), a, b)?;
-        assert!(rt; found == *same, "{a} {b}");
+        assert!(rt; have_one_site(rt.alloc(), &[], a, b)? == *same, "{a} {b}");
     }
     Ok(())
 }
 
-fn opaque(document: u32, precursor: Site) -> Origin {
-    Origin::Opaque(OpaqueOrigin {
-        document,
-        precursor,
-    })
+const ISOLATED_PAIRS: &[(&str, &str, bool)] = &[
+    ("https://pay.a.com/", "https://pay.a.com/x", true),
+    ("https://pay.a.com/", "https://pay.a.com:8443/", false),
+    ("https://pay.a.com/", "https://a.com/", false),
+    ("https://pay.a.com/", "https://sub.pay.a.com/", false),
+    ("https://www.a.com/", "https://sub.pay.a.com/", true),
+    ("https://a.co.uk/", "https://www.a.co.uk/", false),
+];
+
+#[test]
+fn same_isolated_sites(rt: HostRuntime) -> Result<(), Fail> {
+    for (a, b, same) in ISOLATED_PAIRS {
+        assert!(rt;
+            have_one_site(rt.alloc(), ISOLATED, a, b)? == *same,
+            "{a} {b}"
+        );
+    }
+    Ok(())
+}
+
+/// The site of an opaque origin whose precursor has the whole host of a URL.
+fn is_own_precursor(
+    alloc: Global,
+    rules: &SiteRules,
+    text: &str,
+    only: Option<u16>,
+) -> Result<bool, Fail> {
+    let opaque = opaque_origin(alloc, 3, text, only)?;
+    let site = site_of_origin(alloc, rules, &opaque)?;
+    Ok(is_site(&site, Scheme::Https, "www.a.com", only))
 }
 
 #[test]
-fn site_of_an_opaque_origin(rt: HostRuntime) -> Result<(), Fail> {
-    let rules = Rules::new(rt.alloc());
-    let tuple = origin(&rt, rt.alloc(), "https://www.a.com/")?;
-    let opaque = opaque(3, site_of_origin(rt.alloc(), &rules, &tuple)?);
-    assert!(rt; same_site(&rules, &tuple, &opaque));
+fn sites_of_opaque_origins(rt: HostRuntime) -> Result<(), Fail> {
+    let rules = site_rules(rt.alloc(), b"", &[])?;
+    for only in [None, Some(443), Some(8443)] {
+        assert!(rt; is_own_precursor(rt.alloc(), &rules, "https://www.a.com/", only)?);
+    }
+    Ok(())
+}
+
+fn is_one_site(
+    alloc: Global,
+    rules: &SiteRules,
+    tuple: &str,
+    precursor: &str,
+    only: Option<u16>,
+) -> Result<bool, Fail> {
+    let tuple: Origin = origin(alloc, tuple)?;
+    let opaque = opaque_origin(alloc, 3, precursor, only)?;
+    Ok(same_site(rules, &tuple, &opaque))
+}
+
+const PRECURSORS: &[(&str, &str, Option<u16>, bool)] = &[
+    ("https://www.a.com/", "https://a.com/", None, true),
+    ("https://www.a.com/", "https://www.a.com/", None, false),
+    ("https://pay.a.com/", "https://pay.a.com/", Some(443), true),
+    ("https://pay.a.com/", "https://pay.a.com/", None, false),
+    (
+        "https://pay.a.com/",
+        "https://pay.a.com/",
+        Some(8443),
+        false,
+    ),
+];
+
+#[test]
+fn same_site_as_an_opaque_origin(rt: HostRuntime) -> Result<(), Fail> {
+    let rules = site_rules(rt.alloc(), b"", ISOLATED)?;
+    for (tuple, precursor, only, same) in PRECURSORS {
+        let found = is_one_site(rt.alloc(), &rules, tuple, precursor, *only)?;
+        assert!(rt; found == *same, "{tuple} {precursor}");
+    }
     Ok(())
 }
