@@ -7,7 +7,6 @@
 mod answer;
 mod chain;
 mod compared;
-mod values;
 
 pub use answer::{Cors, check};
 pub use compared::compared_text;
