@@ -9,6 +9,7 @@ mod chain;
 mod compared;
 
 pub use answer::{Cors, check};
+pub use chain::is_same_origin_chain;
 pub use compared::compared_text;
 
 #[cfg(test)]
