@@ -1,4 +1,4 @@
-use crate::{Cors, check, compared_text};
+use crate::{Cors, check, compared_text, is_same_origin_chain};
 use http_header::{HeaderMap, HeaderName};
 use mime_kind::FieldText;
 use page_origin::Origin;
@@ -265,6 +265,17 @@ fn of_tuple(rt: HostRuntime) -> Result<(), Fail> {
     for (urls, values, expected) in OF_TUPLE {
         let cors = answer(rt.alloc(), &origin, urls, values)?;
         assert_eq!(rt; cors, *expected, "{urls:?} {values:?}");
+    }
+    Ok(())
+}
+
+#[test]
+fn chains_in_the_origin(rt: HostRuntime) -> Result<(), Fail> {
+    let origin = origin(rt.alloc(), "https://a.com/")?;
+    for (urls, _, cors) in OF_TUPLE {
+        let chain = web_chain(rt.alloc(), urls)?;
+        let stays = is_same_origin_chain(&origin, &chain);
+        assert_eq!(rt; stays, *cors == Cors::SameOrigin, "{urls:?}");
     }
     Ok(())
 }
