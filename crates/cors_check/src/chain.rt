@@ -1,4 +1,4 @@
-//! Chains of URLs against the origin of their request. Nothing here takes memory.
+//! Chains of URLs against the origin of their request, without taking memory.
 
 ghost use Rattle.std.specs.Prelude.{◌≡◌};
 ghost use Rattle.page_origin.specs.PageUrls.{class_of};
@@ -6,7 +6,7 @@ ghost use Rattle.cors_check.specs.Chains.{IsWebChain, is_same_origin_chain, is_t
 
 use page_origin::{Origin, PageUrl, UrlClass, has_origin, same_tuple};
 
-/// Whether each URL of a chain has the origin.
+/// Whether each URL of a chain, each of class [`UrlClass::Web`], has the origin. It takes no memory.
 pub fn is_same_origin_chain(origin: &Origin, chain: &[PageUrl]) -> bool
     requires { IsWebChain chain.now }
     ensures { result ≡ is_same_origin_chain origin.now chain.now }

@@ -1,14 +1,10 @@
-ghost use Rattle.std.specs.Prelude.{◌≡◌, IfOk};
-ghost use Rattle.page_origin.specs.PageUrls.{class_of};
-ghost use Rattle.cors_check.specs.Chains.{IsWebChain};
-
-use crate::{Cors, check, compared_text};
+use crate::{Cors, check, compared_text, is_same_origin_chain};
 use http_header::{HeaderMap, HeaderName};
 use mime_kind::FieldText;
-use page_origin::{OpaqueOrigin, Origin, PageUrl, Site, UrlClass, page_url, tuple_of};
+use page_origin::Origin;
 use std::alloc::Global;
-use std::process::Abort;
 use std::test::Fail;
+use test_support::{opaque_origin, origin, web_chain};
 
 /// A request's chain of URLs, the values of `Access-Control-Allow-Origin`, and the answer.
 type Row = (&'static [&'static str], &'static [&'static str], Cors);
@@ -236,43 +232,9 @@ const ORIGINS: &[(&str, &str)] = &[
     ("http://127.0.0.1:8080/", "http://127.0.0.1:8080"),
 ];
 
-fn web_url(rt: &impl Abort, alloc: Global, text: &str) -> Result<PageUrl, Fail>
-    ensures { IfOk result (λ url. class_of url ≡ UrlClass.Web) }
-{
-    let url = page_url(alloc, text)?;
-    assert!(rt; url.class() == UrlClass::Web, "{text}");
-    Ok(url)
-}
-
-fn chain(rt: &impl Abort, alloc: Global, texts: &[&str]) -> Result<Vec<PageUrl>, Fail>
-    ensures { IfOk result (λ chain. IsWebChain chain.items) }
-{
-    let mut chain = Vec::new(alloc);
-    for text in texts {
-        chain.push(web_url(rt, alloc, text)?)?;
-    }
-    Ok(chain)
-}
-
-/// The tuple origin of a URL.
-fn origin_of(rt: &impl Abort, alloc: Global, text: &str) -> Result<Origin, Fail> {
-    let url = web_url(rt, alloc, text)?;
-    Ok(Origin::Tuple(tuple_of(alloc, &url)?))
-}
-
 /// An opaque origin that comes from the site `https://a.com`.
-fn opaque_origin(rt: &impl Abort, alloc: Global) -> Result<Origin, Fail> {
-    let url = web_url(rt, alloc, "https://a.com/")?;
-    let tuple = tuple_of(alloc, &url)?;
-    let precursor = Site {
-        scheme: tuple.scheme,
-        host: tuple.host,
-        only: None,
-    };
-    Ok(Origin::Opaque(OpaqueOrigin {
-        document: 3,
-        precursor,
-    }))
+fn opaque(alloc: Global) -> Result<Origin, Fail> {
+    opaque_origin(alloc, 3, "https://a.com/", None)
 }
 
 fn fields(alloc: Global, values: &[&str]) -> Result<HeaderMap<FieldText>, Fail> {
@@ -284,46 +246,45 @@ fn fields(alloc: Global, values: &[&str]) -> Result<HeaderMap<FieldText>, Fail> 
     Ok(fields)
 }
 
-fn answer(
-    rt: &impl Abort,
-    alloc: Global,
-    origin: &Origin,
-    urls: &[&str],
-    values: &[&str],
-) -> Result<Cors, Fail> {
-    let chain = chain(rt, alloc, urls)?;
+fn answer(alloc: Global, origin: &Origin, urls: &[&str], values: &[&str]) -> Result<Cors, Fail> {
+    let chain = web_chain(alloc, urls)?;
     let compared = compared_text(alloc, origin, &chain)?;
     Ok(check(origin, &compared, &chain, &fields(alloc, values)?))
 }
 
 /// Whether a response to a request of the origin must name this text.
-fn compares(
-    rt: &impl Abort,
-    alloc: Global,
-    origin: &Origin,
-    urls: &[&str],
-    text: &str,
-) -> Result<bool, Fail> {
-    let chain = chain(rt, alloc, urls)?;
+fn compares(alloc: Global, origin: &Origin, urls: &[&str], text: &str) -> Result<bool, Fail> {
+    let chain = web_chain(alloc, urls)?;
     let compared = compared_text(alloc, origin, &chain)?;
     Ok(compared.as_str() == text)
 }
 
 #[test]
 fn of_tuple(rt: HostRuntime) -> Result<(), Fail> {
-    let origin = origin_of(&rt, rt.alloc(), "https://a.com/")?;
+    let origin = origin(rt.alloc(), "https://a.com/")?;
     for (urls, values, expected) in OF_TUPLE {
-        let cors = answer(&rt, rt.alloc(), &origin, urls, values)?;
+        let cors = answer(rt.alloc(), &origin, urls, values)?;
         assert_eq!(rt; cors, *expected, "{urls:?} {values:?}");
     }
     Ok(())
 }
 
 #[test]
+fn chains_in_the_origin(rt: HostRuntime) -> Result<(), Fail> {
+    let origin = origin(rt.alloc(), "https://a.com/")?;
+    for (urls, _, cors) in OF_TUPLE {
+        let chain = web_chain(rt.alloc(), urls)?;
+        let stays = is_same_origin_chain(&origin, &chain);
+        assert_eq!(rt; stays, *cors == Cors::SameOrigin, "{urls:?}");
+    }
+    Ok(())
+}
+
+#[test]
 fn of_opaque(rt: HostRuntime) -> Result<(), Fail> {
-    let origin = opaque_origin(&rt, rt.alloc())?;
+    let origin = opaque(rt.alloc())?;
     for (urls, values, expected) in OF_OPAQUE {
-        let cors = answer(&rt, rt.alloc(), &origin, urls, values)?;
+        let cors = answer(rt.alloc(), &origin, urls, values)?;
         assert_eq!(rt; cors, *expected, "{urls:?} {values:?}");
     }
     Ok(())
@@ -331,21 +292,18 @@ fn of_opaque(rt: HostRuntime) -> Result<(), Fail> {
 
 #[test]
 fn compared_texts(rt: HostRuntime) -> Result<(), Fail> {
-    let origin = origin_of(&rt, rt.alloc(), "https://a.com/")?;
+    let origin = origin(rt.alloc(), "https://a.com/")?;
     for (urls, text) in COMPARED {
-        assert!(rt; compares(&rt, rt.alloc(), &origin, urls, text)?, "{urls:?}");
+        assert!(rt; compares(rt.alloc(), &origin, urls, text)?, "{urls:?}");
     }
     Ok(())
 }
 
 #[test]
 fn compared_texts_of_opaque(rt: HostRuntime) -> Result<(), Fail> {
-    let origin = opaque_origin(&rt, rt.alloc())?;
+    let origin = opaque(rt.alloc())?;
     for (urls, _) in COMPARED {
-        assert!(rt;
-            compares(&rt, rt.alloc(), &origin, urls, "null")?,
-            "{urls:?}"
-        );
+        assert!(rt; compares(rt.alloc(), &origin, urls, "null")?, "{urls:?}");
     }
     Ok(())
 }
@@ -353,8 +311,8 @@ fn compared_texts_of_opaque(rt: HostRuntime) -> Result<(), Fail> {
 #[test]
 fn texts_of_origins(rt: HostRuntime) -> Result<(), Fail> {
     for (url, text) in ORIGINS {
-        let origin = origin_of(&rt, rt.alloc(), url)?;
-        let cors = answer(&rt, rt.alloc(), &origin, &["https://b.com/x"], &[text])?;
+        let origin = origin(rt.alloc(), url)?;
+        let cors = answer(rt.alloc(), &origin, &["https://b.com/x"], &[text])?;
         assert_eq!(rt; cors, Cors::Passed, "{url}");
     }
     Ok(())
@@ -370,10 +328,10 @@ fn longest(first: &'static str, between: &'static str, last: &'static str) -> [&
 
 #[test]
 fn longest_chains(rt: HostRuntime) -> Result<(), Fail> {
-    let origin = origin_of(&rt, rt.alloc(), "https://a.com/")?;
+    let origin = origin(rt.alloc(), "https://a.com/")?;
     for (first, between, last, value, expected) in LONGEST {
         let urls = longest(first, between, last);
-        let cors = answer(&rt, rt.alloc(), &origin, &urls, &[value])?;
+        let cors = answer(rt.alloc(), &origin, &urls, &[value])?;
         assert_eq!(rt; cors, *expected, "{first} {between} {last} {value}");
     }
     Ok(())
@@ -381,10 +339,10 @@ fn longest_chains(rt: HostRuntime) -> Result<(), Fail> {
 
 #[test]
 fn longest_chain_of_opaque(rt: HostRuntime) -> Result<(), Fail> {
-    let origin = opaque_origin(&rt, rt.alloc())?;
+    let origin = opaque(rt.alloc())?;
     let urls = ["https://a.com/x"; MOST];
     assert_eq!(rt;
-        answer(&rt, rt.alloc(), &origin, &urls, &["null"])?,
+        answer(rt.alloc(), &origin, &urls, &["null"])?,
         Cors::Passed
     );
     Ok(())
