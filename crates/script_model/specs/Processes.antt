@@ -1,5 +1,6 @@
 -- The processes of a history, and the choice of one for a navigation. Own rules, after Chromium's process model.
--- A process is started by its first order, which locks it to the order's site. No kind of entry that is built ends one.
+-- A process is started by an order to it, and locked to the site of its orders, which are all of one site in a legal history.
+-- No kind of entry that is built ends one.
 use Rattle.std.specs.List.{range_with_len}
 use Rattle.std.specs.Prelude.{◌&&◌, if◌then◌else◌, Bool, List, None, Option, Some, count_by, filter_map, fold, is_some, max, nat_lt, ℕ}
 use Rattle.page_origin.specs.declared.site.Site.{Site}
@@ -31,6 +32,7 @@ live_count h = count_by (is_locked h) (processes h)
 unfoldable pub may_start : List Entry → Bool
 may_start h = nat_lt (live_count h) MAX_LIVE_PROCESSES && nat_lt (started h) MAX_STARTED_PROCESSES
 
--- the process for a navigation: the next number, where one more may start. No page shares one with another, since each start page has a group of its own
+-- the process for a navigation: the next number, where one more may start. The soft limit is not asked yet: scripts with a second
+-- start page are not run
 unfoldable pub choice : List Entry → Option ℕ
 choice h = if may_start h then Some (started h) else None
