@@ -1,5 +1,5 @@
 //! Rows of desks that share a toy.
-ghost use Rattle.std.specs.Prelude.{◌≡◌, ◌<◌};
+ghost use Rattle.std.specs.Prelude.{◌≡◌, ◌<◌, IsOk};
 ghost use Rattle.policy_table.specs.declared.standing.TheConstants.{PROCESSES};
 
 use crate::{Desk, NoMemory, PROCESSES, Pass, Standing};
@@ -41,13 +41,14 @@ fn a_death_is_seen_by_all(rt: HostRuntime) -> Result<(), Fail> {
     Ok(())
 }
 
-// A call that adds nothing leaves the places of the pass's own entries.
+// A call that adds nothing finds memory always, and leaves the places of the pass's own entries.
 fn idle<R: Wait, const ROOM: usize>(
     rt: &R,
     desk: &Desk<Toy<ROOM>>,
     pass: &mut Pass<Mark>,
 ) -> Result<(), NoMemory>
     requires { pass.old.desk ≡ desk.now }
+    ensures well { IsOk result }
     ensures mine { pass.new.mine ≡ pass.old.mine }
     ensures kept { (pass.new.desk ≡ pass.old.desk) × (pass.new.weight ≡ pass.old.weight) }
 {
