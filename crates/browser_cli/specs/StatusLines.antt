@@ -1,21 +1,8 @@
 -- The line that stands on standard error for a status, and the status with which the program exits. Own format.
-use Rattle.std.specs.Prelude.{◌++◌, ◌∷◌, [], ◌==◌, List, codes, decimal, if◌then◌else◌, ℕ}
-use Rattle.script_input.specs.declared.refusal.Refusal.{Refusal}
+use Rattle.std.specs.Prelude.{[], List, codes, ℕ}
+use Rattle.script_input.specs.Refusals.{refusal_text}
 use Rattle.browser_cli.specs.declared.status.Status.{Status}
 use Rattle.browser_cli.specs.declared.status.Status.TheVariants.{Ran, Usage, ReadFault, WriteFault, Refused, TooLarge, NoMemory}
-
--- a field after a space, left out where it is empty
-abbrev pub spaced : List ℕ → List ℕ
-spaced [] = []
-spaced (b ∷ text) = 32 ∷ b ∷ text
-
--- the line number, which 0 stands for none
-abbrev pub line_part : ℕ → List ℕ
-line_part line = if line == 0 then [] else codes " line " ++ decimal line
-
--- `refused`, the code, the path and the line
-unfoldable pub refusal_line : Refusal → List ℕ
-refusal_line refusal = codes "refused X" ++ decimal refusal.code ++ spaced refusal.path ++ line_part refusal.line
 
 -- the line of a status; empty where the program ran
 unfoldable pub line_of : Status → List ℕ
@@ -23,7 +10,7 @@ line_of Ran = []
 line_of Usage = codes "usage: one | run N | audit | gen NUMBER"
 line_of ReadFault = codes "read fault"
 line_of WriteFault = codes "write fault"
-line_of (Refused refusal) = refusal_line refusal
+line_of (Refused refusal) = refusal_text refusal
 line_of TooLarge = codes "too large"
 line_of NoMemory = codes "no memory"
 

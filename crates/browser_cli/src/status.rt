@@ -1,5 +1,4 @@
-ghost use Rattle.std.specs.Prelude.{◌≡◌, ◌++◌, IfOk, OnOk, string_bytes};
-ghost use Rattle.std.specs.Fmt.{decimal};
+ghost use Rattle.std.specs.Prelude.{◌≡◌, IfOk};
 ghost use Rattle.browser_cli.specs.StatusLines as lines;
 
 use script_input::Refusal;
@@ -64,41 +63,6 @@ impl LineText {
     }
 }
 
-fn put_spaced(line: &mut String, text: &str) -> Result<(), NoMemory>
-    ensures { OnOk result (string_bytes line.new ≡ string_bytes line.old ++ lines.spaced text.now) }
-{
-    if text.is_empty() {
-        return Ok(());
-    }
-    line.push_str(" ")?;
-    line.push_str(text)?;
-    Ok(())
-}
-
-fn put_line_part(alloc: Global, line: &mut String, number: u32) -> Result<(), NoMemory>
-    ensures { OnOk result (string_bytes line.new ≡ string_bytes line.old ++ lines.line_part number) }
-{
-    if number == 0 {
-        return Ok(());
-    }
-    line.push_str(" line ")?;
-    let digits = number.to_string(alloc)?;
-    line.push_str(digits.as_str())?;
-    Ok(())
-}
-
-#[tactic(auto, unfolding(crate::specs::StatusLines::refusal_line))]
-fn refusal_line(alloc: Global, refusal: &Refusal) -> Result<String, NoMemory>
-    ensures { IfOk result (λ line. string_bytes line ≡ lines.refusal_line refusal.now) }
-{
-    let mut line = String::from_str(alloc, "refused X")?;
-    let code = refusal.code.to_string(alloc)?;
-    line.push_str(code.as_str())?;
-    put_spaced(&mut line, refusal.path.as_str())?;
-    put_line_part(alloc, &mut line, refusal.line)?;
-    Ok(line)
-}
-
 /// The line that the program prints on standard error, empty where it ran.
 #[tactic(auto, unfolding(crate::specs::StatusLines::line_of))]
 pub fn status_line(alloc: Global, status: &Status) -> Result<LineText, NoMemory>
@@ -109,7 +73,7 @@ pub fn status_line(alloc: Global, status: &Status) -> Result<LineText, NoMemory>
         Status::Usage => String::from_str(alloc, "usage: one | run N | audit | gen NUMBER")?,
         Status::ReadFault => String::from_str(alloc, "read fault")?,
         Status::WriteFault => String::from_str(alloc, "write fault")?,
-        Status::Refused(refusal) => refusal_line(alloc, refusal)?,
+        Status::Refused(refusal) => format!(in alloc; "{refusal}")?,
         Status::TooLarge => String::from_str(alloc, "too large")?,
         Status::NoMemory => String::from_str(alloc, "no memory")?,
     };

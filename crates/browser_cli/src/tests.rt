@@ -225,11 +225,11 @@ fn stop_text(alloc: Global, script: &str) -> Result<String, Fail> {
 #[test]
 fn refusals_have_texts(rt: HostRuntime) -> Result<(), Fail> {
     for (script, want) in [
-        ("[]", "the script is refused: X2"),
-        (r#"{"start":["no"]}"#, "the script is refused: X3 /start/0"),
+        ("[]", "refused X2"),
+        (r#"{"start":["no"]}"#, "refused X3 /start/0"),
         (
             r#"{"start":[],"suffixes":"a.*.b"}"#,
-            "the script is refused: X4 line 1",
+            "refused X4 line 1",
         ),
         (r#"{"start":[]}"#, ""),
     ] {
