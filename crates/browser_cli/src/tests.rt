@@ -285,14 +285,24 @@ fn lines_of_refusals_name_path_and_line(rt: HostRuntime) -> Result<(), Fail> {
         path: PathText::root(alloc),
         line: 3,
     });
+    assert_eq!(rt; status.exit_code(), 5);
     assert_eq!(rt; status_line(alloc, &status)?.as_str(), "refused X4 line 3");
-    assert_eq!(rt;
-        status_line(alloc, &Status::TooLarge)?.as_str(),
-        "too large"
-    );
-    assert_eq!(rt;
-        status_line(alloc, &Status::NoMemory)?.as_str(),
-        "no memory"
-    );
+    Ok(())
+}
+
+#[test]
+fn statuses_have_their_line_and_exit_code(rt: HostRuntime) -> Result<(), Fail> {
+    let rows = [
+        (Status::Ran, 0, ""),
+        (Status::Usage, 2, "usage: one | run N | audit | gen NUMBER"),
+        (Status::ReadFault, 3, "read fault"),
+        (Status::WriteFault, 4, "write fault"),
+        (Status::TooLarge, 6, "too large"),
+        (Status::NoMemory, 7, "no memory"),
+    ];
+    for (status, code, line) in &rows {
+        assert_eq!(rt; status.exit_code(), *code);
+        assert_eq!(rt; status_line(rt.alloc(), status)?.as_str(), *line);
+    }
     Ok(())
 }
