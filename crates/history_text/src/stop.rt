@@ -4,11 +4,12 @@ use thiserror::Error;
 /// Why bytes are read as no history.
 #[derive(Clone, Copy, Debug, PartialEq, Eq, Error)]
 pub enum TextStop {
-    /// The first line that is no spelling of an entry, numbered from 1. A line past 2^32 - 1 is told as 2^32 - 1.
+    /// The first line that is no spelling of an entry, numbered from 1; the version line counts. A line past 2^32 - 1 is
+    /// told as 2^32 - 1.
     #[error("line {0} is no spelling of an entry")]
     BadLine(u32),
     /// Memory ran out.
-    #[error("no memory")]
+    #[error("{}", NoMemory)]
     NoMemory,
 }
 

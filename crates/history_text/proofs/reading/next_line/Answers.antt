@@ -1,10 +1,7 @@
-use Rattle.history_text.proofs.Lines.{bad_start, line_there}
+use Rattle.std.proofs.lemmas.Bool.{both_ways}
+use Rattle.history_text.proofs.Lines.{other_rule}
 use Rattle.history_text.proofs.reading.next_line.Goals as goal
 
-pub returns-in-Ok-clause-found : goal.returns-in-Ok-clause-found
-returns-in-Ok-clause-found c =
-    (c.in-Ok.ensures.read.0, line_there c.in-Ok.entry c.args.text.now c.in-Some.line.now c.in-Some.rest.now c.in-Some.ensures.some.0 c.in-Ok.ensures.read.1)
-
-pub returns-in-Err-BadLine-clause-bad : goal.returns-in-Err-BadLine-clause-bad
-returns-in-Err-BadLine-clause-bad c = λ _.
-    bad_start c.args.text.now c.in-Some.line.now c.in-Some.rest.now c.in-Some.ensures.some.0 c.in-Some.ensures.some.1 (c.in-Err-BadLine.ensures.bad (cc))
+pub returns-then-not-has_rule_of-clause-bad : goal.returns-then-not-has_rule_of-clause-bad
+returns-then-not-has_rule_of-clause-bad c = λ _.
+    other_rule c.args.policy c.args.text.now c.in_ok-entry.rest.now c.in_ok-entry.entry c.in_ok-entry.ensures.found.0 c.in_ok-entry.ensures.found.1 (λ has. both_ways c.has_rule_of.result c.if-not-has_rule_of.true (c.has_rule_of.ensures.1 has))
