@@ -2,29 +2,57 @@
 //! output. A status other than Ran has a line on standard error.
 #![tactic(auto)]
 
-use browser_cli::{browse_one, status_line};
+ghost use Rattle.std.specs.Prelude.{◌≡◌, ◌↔◌};
+ghost use Rattle.std.specs.IoError.{error_kind};
+
+use browser_cli::{Status, browse_one, status_line};
 use browser_io::{InputSource, OutputSink};
+use std::alloc::Global;
+use std::io::ErrorKind;
 use std::process::ExitCode;
+use std::rt::Env;
 use std::{env, io};
 
-fn main(rt: HostRuntime) -> io::Result<ExitCode> {
-    let alloc = rt.alloc();
-    let mut arguments = Vec::new(alloc);
-    for argument in env::args(&rt)? {
-        arguments.push(argument)?;
+/// The status where the words can't be had: memory ran out, or one of them isn't UTF-8.
+fn status_without_words(error: io::Error) -> Status
+    ensures memory { (result ≡ Status.NoMemory) ↔ (error_kind error ≡ ErrorKind.OutOfMemory) }
+    ensures usage { (result ≡ Status.Usage) ↔ ¬ (error_kind error ≡ ErrorKind.OutOfMemory) }
+{
+    match error.kind() {
+        ErrorKind::OutOfMemory => Status::NoMemory,
+        _ => Status::Usage,
     }
+}
+
+fn browse(rt: &(impl Alloc<A = Global> + Env + Input + Print)) -> io::Result<Status> {
+    let alloc = rt.alloc();
+    let arguments: Vec<String> = env::args(rt)?.collect(alloc)?;
     let mut words = Vec::new(alloc);
     for argument in arguments.iter().skip(1) {
         words.push(argument.as_str())?;
     }
     let mut source = InputSource::new(rt.reader());
-    let mut sink = OutputSink::new(io::writer(&rt));
-    let status = browse_one(alloc, words.as_slice(), &mut source, &mut sink);
-    if let Ok(line) = status_line(alloc, &status) {
-        let text = line.as_str();
-        if !text.is_empty() {
-            let _ = eprintln!(rt; "{text}");
-        }
+    let mut sink = OutputSink::new(io::writer(rt));
+    Ok(browse_one(alloc, words.as_slice(), &mut source, &mut sink))
+}
+
+fn print_line(rt: &impl Eprint, line: &str) {
+    if !line.is_empty() {
+        let _ = eprintln!(rt; "{line}");
     }
-    Ok(ExitCode::from(status.exit_code()))
+}
+
+/// Prints the line of a status. That of NoMemory needs no memory.
+fn tell(rt: &(impl Alloc<A = Global> + Eprint), status: &Status) {
+    match status_line(rt.alloc(), status) {
+        Ok(line) => print_line(rt, line.as_str()),
+        Err(_) if matches!(status, Status::NoMemory) => print_line(rt, "no memory"),
+        Err(_) => {}
+    }
+}
+
+fn main(rt: HostRuntime) -> ExitCode {
+    let status = browse(&rt).unwrap_or_else(status_without_words);
+    tell(&rt, &status);
+    ExitCode::from(status.exit_code())
 }

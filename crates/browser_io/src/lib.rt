@@ -20,6 +20,8 @@ mod reading;
 mod sink;
 mod source;
 #[cfg(test)]
+mod stream_tests;
+#[cfg(test)]
 mod tests;
 mod writing;
 

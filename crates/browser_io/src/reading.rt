@@ -53,6 +53,7 @@ pub fn read_all<S: Source>(alloc: Global, source: &mut S, max: usize) -> Result<
         TakesAtMost (S.left source.old) (S.left source.new) max }
 
     ensures fault { result ≡ Err ReadStop.Fault → Rose (S.faults source.old) (S.faults source.new) }
+    ensures calm { result ≢ Err ReadStop.Fault → S.faults source.new ≡ S.faults source.old }
 
     ensures later { S.faults source.old ≤ S.faults source.new }
     ensures telling { KeepsTelling (S.left source.old) (S.left source.new) }

@@ -1,6 +1,6 @@
 //! The trait of sinks.
 
-ghost use Rattle.std.specs.Prelude.{◌≡◌, ◌≤◌, ◌<◌, ℕ, List, length, take, Option, IfOk, OnErr};
+ghost use Rattle.std.specs.Prelude.{◌≡◌, ◌≤◌, ◌<◌, ℕ, List, length, take, Option, IfOk, OnOk, OnErr};
 ghost use Rattle.std.specs.Io.KnownBytes.{Appends};
 ghost use Rattle.browser_io.specs.Faults.{Rose};
 ghost use Rattle.browser_io.specs.Moved.{KeepsTelling};
@@ -25,10 +25,11 @@ pub trait Sink {
         ensures bytes { IfOk result (λ n.
             Appends (written self.old) (written self.new) (take n piece.now)) }
 
-        // A failure is counted, and moves no byte.
+        // A failure is counted, and moves no byte. Nothing else is counted.
         ensures rose { OnErr result (Rose (faults self.old) (faults self.new)) }
         ensures unmoved { OnErr result (written self.new ≡ written self.old) }
 
+        ensures calm { OnOk result (faults self.new ≡ faults self.old) }
         ensures later { faults self.old ≤ faults self.new }
         ensures telling { KeepsTelling (written self.old) (written self.new) };
 }

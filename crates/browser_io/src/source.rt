@@ -1,6 +1,6 @@
 //! The trait of sources.
 
-ghost use Rattle.std.specs.Prelude.{◌≡◌, ◌≤◌, ◌<◌, ℕ, List, length, take, Option, IfOk, OnErr};
+ghost use Rattle.std.specs.Prelude.{◌≡◌, ◌≤◌, ◌<◌, ℕ, List, length, take, Option, IfOk, OnOk, OnErr};
 ghost use Rattle.std.specs.Io.KnownBytes.{Consumes, IsAtEnd};
 ghost use Rattle.browser_io.specs.Faults.{Rose};
 ghost use Rattle.browser_io.specs.Moved.{KeepsTelling};
@@ -25,10 +25,11 @@ pub trait Source {
             Consumes (left self.old) (left self.new) (take n buf.new)) }
         ensures end { IfOk result (λ n. n ≡ 0 → IsAtEnd (left self.new)) }
 
-        // A failure is counted, and moves no byte.
+        // A failure is counted, and moves no byte. Nothing else is counted.
         ensures rose { OnErr result (Rose (faults self.old) (faults self.new)) }
         ensures unmoved { OnErr result (left self.new ≡ left self.old) }
 
+        ensures calm { OnOk result (faults self.new ≡ faults self.old) }
         ensures later { faults self.old ≤ faults self.new }
         ensures telling { KeepsTelling (left self.old) (left self.new) };
 }

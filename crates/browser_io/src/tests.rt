@@ -1,10 +1,10 @@
-use crate::ReadStop::{Fault, NoMemory, TooLarge};
+use crate::ReadStop::{Fault, TooLarge};
 use crate::{
-    Failed, InputSource, MemSink, MemSource, NeverSink, NeverSource, OutputSink, ReadStop, Sink,
-    Source, WriteStop, read_all, write_all,
+    Failed, MemSink, MemSource, NeverSink, NeverSource, NoMemory, ReadStop, Sink, Source,
+    WriteStop, read_all, write_all,
 };
-use std::io;
-use std::io::{Read, Write};
+use std::alloc::{AllocError, Global};
+use std::error::Error;
 use std::test::Fail;
 
 const TEXT: &[u8] = b"open 0\norder 0 0 a\n";
@@ -73,6 +73,75 @@ fn reads_more_than_one_chunk(rt: HostRuntime) -> Result<(), Fail> {
     Ok(())
 }
 
+// So many bytes, no two neighbours of which are equal.
+pub(crate) fn numbered(alloc: Global, len: usize) -> Result<Vec<u8>, AllocError> {
+    let mut bytes = Vec::new(alloc);
+    for index in 0..len {
+        bytes.push((index % 251) as u8)?;
+    }
+    Ok(bytes)
+}
+
+// A source of 10,000 bytes: its step, the read that fails, and how many bytes were read before it.
+const FAILED_READS: &[(usize, u64, usize)] = &[
+    (4_096, 0, 0),
+    (4_096, 1, 4_096),
+    (4_096, 2, 8_192),
+    (4_096, 3, 10_000),
+    (2_500, 1, 2_500),
+    (10_000, 1, 4_096),
+];
+
+#[test]
+fn a_failed_read_ends_the_reading_and_leaves_the_rest(rt: HostRuntime) -> Result<(), Fail> {
+    let alloc = rt.alloc();
+    for (step, failing, taken) in FAILED_READS {
+        let bytes = numbered(alloc, 10_000)?;
+        let fails = vec![in alloc; *failing; 1]?;
+        let mut source = MemSource::new(bytes.clone()?, (*step).max(1), fails);
+        let answer = read_all(alloc, &mut source, 10_000).err();
+        assert_eq!(rt; answer, Some(Fault), "read {failing} in steps of {step}");
+        let rest = read_all(alloc, &mut source, 10_000)?;
+        let (_, left) = bytes.as_slice().split_at((*taken).min(bytes.len()));
+        assert!(rt;
+            rest.as_slice() == left,
+            "read {failing} in steps of {step}"
+        );
+    }
+    Ok(())
+}
+
+// A sink that gets 10,000 bytes: its step, the write that fails, and how many bytes were written before it.
+const FAILED_WRITES: &[(usize, u64, usize)] = &[
+    (4_096, 0, 0),
+    (4_096, 1, 4_096),
+    (4_096, 2, 8_192),
+    (10_000, 0, 0),
+    (2_500, 3, 7_500),
+];
+
+#[test]
+fn a_failed_write_ends_the_writing(rt: HostRuntime) -> Result<(), Fail> {
+    let alloc = rt.alloc();
+    let bytes = numbered(alloc, 10_000)?;
+    for (step, failing, sent) in FAILED_WRITES {
+        let fails = vec![in alloc; *failing; 1]?;
+        let mut sink = MemSink::new(alloc, 20_000, (*step).max(1), fails)?;
+        let answer = write_all(&mut sink, bytes.as_slice());
+        assert_eq!(rt;
+            answer,
+            Err(WriteStop { sent: *sent }),
+            "write {failing} in steps of {step}"
+        );
+        let (first, _) = bytes.as_slice().split_at((*sent).min(bytes.len()));
+        assert!(rt;
+            sink.written() == first,
+            "write {failing} in steps of {step}"
+        );
+    }
+    Ok(())
+}
+
 #[test]
 fn writes_all_or_says_how_much(rt: HostRuntime) -> Result<(), Fail> {
     let cases: [(&str, usize, usize, &[u64], usize); 8] = [
@@ -99,107 +168,30 @@ fn writes_all_or_says_how_much(rt: HostRuntime) -> Result<(), Fail> {
     Ok(())
 }
 
-// Gives one byte a call, or takes up to three, with one error after `before` calls. It takes no
-// byte once it has ten.
-#[derive(Drop)]
-struct Choppy {
-    bytes: Vec<u8>,
-    at: usize,
-    before: Option<usize>,
-    kind: io::ErrorKind,
-}
-
-impl Choppy {
-    fn is_cut(&mut self) -> bool {
-        let cut = self.before == Some(0);
-        self.before = match self.before {
-            Some(calls) if calls > 0 => Some(calls - 1),
-            _ => None,
-        };
-        cut
-    }
-}
-
-impl Read for Choppy {
-    fn read(&mut self, buf: &mut [u8]) -> io::Result<usize> {
-        if self.is_cut() {
-            return Err(self.kind.into());
-        }
-        match (self.bytes.get(self.at), buf.first_mut()) {
-            (Some(byte), Some(slot)) => {
-                *slot = *byte;
-                self.at = self.at.saturating_add(1);
-                Ok(1)
-            }
-            _ => Ok(0),
-        }
-    }
-}
-
-impl Write for Choppy {
-    fn write(&mut self, piece: &[u8]) -> io::Result<usize> {
-        if self.is_cut() {
-            return Err(self.kind.into());
-        }
-        let room = 10usize.saturating_sub(self.bytes.len());
-        let count = piece.len().min(3).min(room);
-        self.bytes.extend_from_slice(&piece[..count])?;
-        Ok(count)
-    }
-
-    fn flush(&mut self) -> io::Result<()> {
-        Ok(())
-    }
-}
-
-#[test]
-fn an_error_of_a_reader_or_a_writer_is_a_fault(rt: HostRuntime) -> Result<(), Fail> {
-    let reader = Choppy {
-        bytes: Vec::from_slice(rt.alloc(), b"0123456789")?,
-        at: 0,
-        before: Some(2),
-        kind: io::ErrorKind::Interrupted,
-    };
-    let mut source = InputSource::new(reader);
-    assert_eq!(rt; read_all(rt.alloc(), &mut source, 100).err(), Some(Fault));
-    assert_eq!(rt;
-        read_all(rt.alloc(), &mut source, 100)?.as_slice(),
-        b"23456789".as_slice()
-    );
-
-    let writer = Choppy {
-        bytes: Vec::new(rt.alloc()),
-        at: 0,
-        before: Some(2),
-        kind: io::ErrorKind::BrokenPipe,
-    };
-    let mut sink = OutputSink::new(writer);
-    assert_eq!(rt;
-        write_all(&mut sink, b"0123456789"),
-        Err(WriteStop { sent: 6 })
-    );
-    assert_eq!(rt; write_all(&mut sink, b"6789++"), Err(WriteStop { sent: 4 }));
-    assert_eq!(rt; sink.write(b"+"), Err(Failed));
-    Ok(())
+fn text_of<E: Error>(alloc: Global, error: &E) -> Result<String, AllocError> {
+    error.to_string(alloc)
 }
 
 #[test]
 fn errors_have_texts(rt: HostRuntime) -> Result<(), Fail> {
     let alloc = rt.alloc();
-    assert_eq!(rt;
-        format!(in alloc; "{Failed}")?.as_str(),
-        "the device failed"
-    );
-    assert_eq!(rt; format!(in alloc; "{}", Fault)?.as_str(), "a read failed");
-    assert_eq!(rt;
-        format!(in alloc; "{}", TooLarge)?.as_str(),
-        "there are too many bytes"
-    );
-    assert_eq!(rt; format!(in alloc; "{}", NoMemory)?.as_str(), "no memory");
-    let stop = WriteStop { sent: 8 };
-    assert_eq!(rt;
-        format!(in alloc; "{stop}")?.as_str(),
-        "a write failed after 8 bytes"
-    );
+    let rows = [
+        (text_of(alloc, &Failed)?, "the device failed"),
+        (text_of(alloc, &NoMemory)?, "no memory"),
+        (text_of(alloc, &Fault)?, "a read failed"),
+        (text_of(alloc, &TooLarge)?, "there are too many bytes"),
+        (text_of(alloc, &ReadStop::NoMemory)?, "no memory"),
+        (
+            text_of(alloc, &WriteStop { sent: 0 })?,
+            "a write failed after 0 bytes",
+        ),
+        (
+            text_of(alloc, &WriteStop { sent: 8 })?,
+            "a write failed after 8 bytes",
+        ),
+    ];
+    for (text, want) in &rows {
+        assert_eq!(rt; text.as_str(), *want);
+    }
     Ok(())
 }

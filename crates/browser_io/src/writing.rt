@@ -26,6 +26,7 @@ pub fn write_all<K: Sink>(sink: &mut K, bytes: &[u8]) -> Result<(), WriteStop>
     ensures sent { IfErr result (λ stop.
         Appends (K.written sink.old) (K.written sink.new) (take stop.sent bytes.now)) }
     ensures fault { OnErr result (Rose (K.faults sink.old) (K.faults sink.new)) }
+    ensures calm { OnOk result (K.faults sink.new ≡ K.faults sink.old) }
 
     ensures later { K.faults sink.old ≤ K.faults sink.new }
     ensures telling { KeepsTelling (K.written sink.old) (K.written sink.new) }

@@ -2,6 +2,7 @@
 
 ghost use Rattle.std.specs.Prelude.{◌≡◌, ◌++◌, IfOk, OnOk};
 ghost use Rattle.entry_text.specs.Lines as lines;
+ghost use Rattle.entry_text.specs.Printing.{GrowsTo};
 
 use crate::fields::{put, put_decimal, put_hex, put_number, put_text};
 use crate::origins::put_origin;
@@ -26,7 +27,8 @@ fn sandbox_text(sandbox: bool) -> &'static str
 
 #[tactic(auto, unfolding(crate::specs::Lines::src_text))]
 fn put_src(alloc: Global, out: &mut Vec<u8>, src: &Src) -> Result<(), NoMemory>
-    ensures { OnOk result (out.new.items ≡ out.old.items ++ lines.field (lines.src_text src.now)) }
+    ensures text { OnOk result (out.new.items ≡ out.old.items ++ lines.field (lines.src_text src.now)) }
+    ensures kept { GrowsTo out.old.items out.new.items }
 {
     match src {
         Src::Url(url) => {
@@ -42,7 +44,8 @@ fn put_src(alloc: Global, out: &mut Vec<u8>, src: &Src) -> Result<(), NoMemory>
 
 #[tactic(auto, unfolding(crate::specs::Lines::target_text))]
 fn put_target(alloc: Global, out: &mut Vec<u8>, target: &Target) -> Result<(), NoMemory>
-    ensures { OnOk result (out.new.items ≡ out.old.items ++ lines.field (lines.target_text target.now)) }
+    ensures text { OnOk result (out.new.items ≡ out.old.items ++ lines.field (lines.target_text target.now)) }
+    ensures kept { GrowsTo out.old.items out.new.items }
 {
     match target {
         Target::Any => put(out, b" *"),
@@ -54,7 +57,8 @@ fn put_target(alloc: Global, out: &mut Vec<u8>, target: &Target) -> Result<(), N
 /// Appends a space and the body of a message.
 #[tactic(auto, unfolding(crate::specs::Lines::body_text))]
 pub fn put_body(alloc: Global, out: &mut Vec<u8>, body: &Body) -> Result<(), NoMemory>
-    ensures { OnOk result (out.new.items ≡ out.old.items ++ lines.field (lines.body_text body.now)) }
+    ensures text { OnOk result (out.new.items ≡ out.old.items ++ lines.field (lines.body_text body.now)) }
+    ensures kept { GrowsTo out.old.items out.new.items }
 {
     match body {
         Body::Navigate {

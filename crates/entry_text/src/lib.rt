@@ -2,7 +2,7 @@
 //!
 //! One entry is one line that ends with a line feed. Fields are separated by one space, numbers are decimal, texts are
 //! lower-case hexadecimal, and a URL stands last. All of this is the project's own format.
-#![tactic(auto)]
+#![tactic(auto, using(crate::proofs::Growing::grows_by_none, crate::proofs::Growing::grows_on))]
 
 mod bodies;
 mod fields;

@@ -3,6 +3,7 @@
 ghost use Rattle.std.specs.Prelude.{◌≡◌, ◌++◌, OnOk};
 ghost use Rattle.history_entry.specs.declared.entry.Entry.TheVariants.{Commit, Order, Said};
 ghost use Rattle.entry_text.specs.Lines as lines;
+ghost use Rattle.entry_text.specs.Printing.{GrowsTo};
 
 use crate::bodies::put_body;
 use crate::fields::{put, put_hex, put_number, put_rule, put_text};
@@ -12,9 +13,32 @@ use history_entry::{EndHow, Entry, HopOf, LocalWhat, Message, RawUrl, Reply};
 use page_origin::{NoMemory, Origin, Site, UrlText};
 use std::alloc::Global;
 
+fn put_pair(alloc: Global, out: &mut Vec<u8>, first: u32, second: u32) -> Result<(), NoMemory>
+    ensures text { OnOk result (out.new.items ≡ out.old.items ++ (lines.number first ++ lines.number second)) }
+    ensures kept { GrowsTo out.old.items out.new.items }
+{
+    put_number(alloc, out, first)?;
+    put_number(alloc, out, second)
+}
+
+fn put_action(
+    alloc: Global,
+    out: &mut Vec<u8>,
+    process: u32,
+    document: u32,
+    action: u32,
+) -> Result<(), NoMemory>
+    ensures text { OnOk result (out.new.items ≡ out.old.items ++ (lines.number process ++ lines.number document ++ lines.number action)) }
+    ensures kept { GrowsTo out.old.items out.new.items }
+{
+    put_pair(alloc, out, process, document)?;
+    put_number(alloc, out, action)
+}
+
 #[tactic(auto, unfolding(crate::specs::Lines::hop_text))]
 fn put_hop_of(alloc: Global, out: &mut Vec<u8>, of: HopOf) -> Result<(), NoMemory>
-    ensures { OnOk result (out.new.items ≡ out.old.items ++ lines.field (lines.hop_text of)) }
+    ensures text { OnOk result (out.new.items ≡ out.old.items ++ lines.field (lines.hop_text of)) }
+    ensures kept { GrowsTo out.old.items out.new.items }
 {
     match of {
         HopOf::Nav(navigation) => {
@@ -30,7 +54,8 @@ fn put_hop_of(alloc: Global, out: &mut Vec<u8>, of: HopOf) -> Result<(), NoMemor
 
 #[tactic(auto, unfolding(crate::specs::Lines::what_text))]
 fn put_what(alloc: Global, out: &mut Vec<u8>, what: &LocalWhat) -> Result<(), NoMemory>
-    ensures { OnOk result (out.new.items ≡ out.old.items ++ lines.field (lines.what_text what.now)) }
+    ensures text { OnOk result (out.new.items ≡ out.old.items ++ lines.field (lines.what_text what.now)) }
+    ensures kept { GrowsTo out.old.items out.new.items }
 {
     match what {
         LocalWhat::Waited => put(out, b" waited"),
@@ -45,7 +70,8 @@ fn put_what(alloc: Global, out: &mut Vec<u8>, what: &LocalWhat) -> Result<(), No
 
 #[tactic(auto, unfolding(crate::specs::Lines::how_text))]
 fn put_how(out: &mut Vec<u8>, how: EndHow) -> Result<(), NoMemory>
-    ensures { OnOk result (out.new.items ≡ out.old.items ++ lines.field (lines.how_text how)) }
+    ensures text { OnOk result (out.new.items ≡ out.old.items ++ lines.field (lines.how_text how)) }
+    ensures kept { GrowsTo out.old.items out.new.items }
 {
     match how {
         EndHow::Whole => put(out, b" whole"),
@@ -70,12 +96,12 @@ fn put_order(
     origin: &Origin,
     url: &UrlText,
 ) -> Result<(), NoMemory>
-    ensures { OnOk result (out.new.items ≡ out.old.items ++ lines.entry_text (Order navigation process site.now origin.now url.now)) }
+    ensures text { OnOk result (out.new.items ≡ out.old.items ++ lines.entry_text (Order navigation process site.now origin.now url.now)) }
+    ensures kept { GrowsTo out.old.items out.new.items }
 {
     put(out, b"order")?;
-    put_number(alloc, out, navigation)?;
-    put_number(alloc, out, process)?;
-    put_site(out, site)?;
+    put_pair(alloc, out, navigation, process)?;
+    put_site(alloc, out, site)?;
     put_origin(alloc, out, origin)?;
     put_text(out, url.as_str())
 }
@@ -90,12 +116,11 @@ fn put_said(
     message: &Message,
     reply: &Reply,
 ) -> Result<(), NoMemory>
-    ensures { OnOk result (out.new.items ≡ out.old.items ++ lines.entry_text (Said process document action message.now reply.now)) }
+    ensures text { OnOk result (out.new.items ≡ out.old.items ++ lines.entry_text (Said process document action message.now reply.now)) }
+    ensures kept { GrowsTo out.old.items out.new.items }
 {
     put(out, b"said")?;
-    put_number(alloc, out, process)?;
-    put_number(alloc, out, document)?;
-    put_number(alloc, out, action)?;
+    put_action(alloc, out, process, document, action)?;
     put_number(alloc, out, message.document)?;
     put_body(alloc, out, &message.body)?;
     put_reply(alloc, out, reply)
@@ -111,11 +136,11 @@ fn put_commit(
     url: &RawUrl,
     reply: &Reply,
 ) -> Result<(), NoMemory>
-    ensures { OnOk result (out.new.items ≡ out.old.items ++ lines.entry_text (Commit process navigation origin.now url.now reply.now)) }
+    ensures text { OnOk result (out.new.items ≡ out.old.items ++ lines.entry_text (Commit process navigation origin.now url.now reply.now)) }
+    ensures kept { GrowsTo out.old.items out.new.items }
 {
     put(out, b"commit")?;
-    put_number(alloc, out, process)?;
-    put_number(alloc, out, navigation)?;
+    put_pair(alloc, out, process, navigation)?;
     put_origin(alloc, out, origin)?;
     put_hex(alloc, out, url.as_str().as_bytes())?;
     put_reply(alloc, out, reply)
@@ -124,7 +149,8 @@ fn put_commit(
 /// Appends the line of an entry, without its line feed.
 #[tactic(auto, unfolding(crate::specs::Lines::entry_text))]
 pub fn put_entry(alloc: Global, out: &mut Vec<u8>, entry: &Entry) -> Result<(), NoMemory>
-    ensures { OnOk result (out.new.items ≡ out.old.items ++ lines.entry_text entry.now) }
+    ensures text { OnOk result (out.new.items ≡ out.old.items ++ lines.entry_text entry.now) }
+    ensures kept { GrowsTo out.old.items out.new.items }
 {
     match entry {
         Entry::Opened(page) => {
@@ -160,9 +186,7 @@ pub fn put_entry(alloc: Global, out: &mut Vec<u8>, entry: &Entry) -> Result<(), 
         }
         Entry::Local(process, document, action, what) => {
             put(out, b"local")?;
-            put_number(alloc, out, *process)?;
-            put_number(alloc, out, *document)?;
-            put_number(alloc, out, *action)?;
+            put_action(alloc, out, *process, *document, *action)?;
             put_what(alloc, out, what)
         }
         Entry::Head(request, rule) => {
@@ -172,8 +196,7 @@ pub fn put_entry(alloc: Global, out: &mut Vec<u8>, entry: &Entry) -> Result<(), 
         }
         Entry::Piece(request, index, bytes) => {
             put(out, b"piece")?;
-            put_number(alloc, out, *request)?;
-            put_number(alloc, out, *index)?;
+            put_pair(alloc, out, *request, *index)?;
             put_hex(alloc, out, bytes.as_bytes())
         }
         Entry::End(request, how) => {
@@ -191,7 +214,8 @@ pub fn put_entry(alloc: Global, out: &mut Vec<u8>, entry: &Entry) -> Result<(), 
 /// Appends the line of an entry, with its line feed.
 #[tactic(auto, unfolding(crate::specs::Lines::line_of))]
 pub fn put_line(alloc: Global, out: &mut Vec<u8>, entry: &Entry) -> Result<(), NoMemory>
-    ensures { OnOk result (out.new.items ≡ out.old.items ++ lines.line_of entry.now) }
+    ensures text { OnOk result (out.new.items ≡ out.old.items ++ lines.line_of entry.now) }
+    ensures kept { GrowsTo out.old.items out.new.items }
 {
     put_entry(alloc, out, entry)?;
     put(out, b"\n")

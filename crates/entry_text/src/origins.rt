@@ -1,61 +1,60 @@
 //! Sites and origins.
 
-ghost use Rattle.std.specs.Prelude.{◌≡◌, ◌++◌, [], OnOk, codes, decimal, if◌then◌else◌, ◌==◌};
+ghost use Rattle.std.specs.Prelude.{◌≡◌, ◌++◌, OnOk};
 ghost use Rattle.page_origin.specs.Origins as origins;
 ghost use Rattle.entry_text.specs.Lines as lines;
+ghost use Rattle.entry_text.specs.Printing.{GrowsTo};
 
 use crate::fields::{put, put_decimal};
-use page_origin::{NoMemory, Origin, Scheme, Site, TupleOrigin};
+use page_origin::{HostText, NoMemory, Origin, Scheme, Site, TupleOrigin};
 use std::alloc::Global;
 
-fn scheme_text(scheme: Scheme) -> &'static [u8]
-    ensures { result.now ≡ origins.scheme_text scheme }
+fn put_plain(out: &mut Vec<u8>, scheme: Scheme, host: &HostText) -> Result<(), NoMemory>
+    ensures text { OnOk result (out.new.items ≡ out.old.items ++ origins.plain_text scheme host.now) }
+    ensures kept { GrowsTo out.old.items out.new.items }
 {
-    match scheme {
-        Scheme::Http => b"http",
-        Scheme::Https => b"https",
-    }
-}
-
-fn default_port_of(scheme: Scheme) -> u16
-    ensures { result ≡ origins.default_port_of scheme }
-{
-    match scheme {
-        Scheme::Http => 80,
-        Scheme::Https => 443,
-    }
-}
-
-fn put_site_text(out: &mut Vec<u8>, site: &Site) -> Result<(), NoMemory>
-    ensures { OnOk result (out.new.items ≡ out.old.items ++ origins.site_text site.now) }
-{
-    put(out, scheme_text(site.scheme))?;
+    put(out, scheme.as_str().as_bytes())?;
     put(out, b"://")?;
-    put(out, site.host.as_str().as_bytes())
+    put(out, host.as_str().as_bytes())
 }
 
-fn put_port(alloc: Global, out: &mut Vec<u8>, tuple: &TupleOrigin) -> Result<(), NoMemory>
-    ensures { OnOk result (out.new.items ≡ out.old.items ++ (if tuple.now.port == origins.default_port_of tuple.now.scheme then [] else codes ":" ++ decimal tuple.now.port)) }
+fn put_port(alloc: Global, out: &mut Vec<u8>, scheme: Scheme, port: u16) -> Result<(), NoMemory>
+    ensures text { OnOk result (out.new.items ≡ out.old.items ++ origins.port_text scheme port) }
+    ensures kept { GrowsTo out.old.items out.new.items }
 {
-    if tuple.port == default_port_of(tuple.scheme) {
+    if port == scheme.default_port() {
         return Ok(());
     }
     put(out, b":")?;
-    put_decimal(alloc, out, u32::from(tuple.port))
+    put_decimal(alloc, out, u32::from(port))
+}
+
+fn put_site_text(alloc: Global, out: &mut Vec<u8>, site: &Site) -> Result<(), NoMemory>
+    ensures text { OnOk result (out.new.items ≡ out.old.items ++ origins.site_text site.now) }
+    ensures kept { GrowsTo out.old.items out.new.items }
+{
+    match site.only {
+        None => put_plain(out, site.scheme, &site.host),
+        Some(port) => {
+            put(out, b"=")?;
+            put_plain(out, site.scheme, &site.host)?;
+            put_port(alloc, out, site.scheme, port)
+        }
+    }
 }
 
 fn put_tuple_text(alloc: Global, out: &mut Vec<u8>, tuple: &TupleOrigin) -> Result<(), NoMemory>
-    ensures { OnOk result (out.new.items ≡ out.old.items ++ origins.tuple_text tuple.now) }
+    ensures text { OnOk result (out.new.items ≡ out.old.items ++ origins.tuple_text tuple.now) }
+    ensures kept { GrowsTo out.old.items out.new.items }
 {
-    put(out, scheme_text(tuple.scheme))?;
-    put(out, b"://")?;
-    put(out, tuple.host.as_str().as_bytes())?;
-    put_port(alloc, out, tuple)
+    put_plain(out, tuple.scheme, &tuple.host)?;
+    put_port(alloc, out, tuple.scheme, tuple.port)
 }
 
 #[tactic(auto, unfolding(crate::specs::Lines::origin_line))]
 fn put_origin_line(alloc: Global, out: &mut Vec<u8>, origin: &Origin) -> Result<(), NoMemory>
-    ensures { OnOk result (out.new.items ≡ out.old.items ++ lines.origin_line origin.now) }
+    ensures text { OnOk result (out.new.items ≡ out.old.items ++ lines.origin_line origin.now) }
+    ensures kept { GrowsTo out.old.items out.new.items }
 {
     match origin {
         Origin::Tuple(tuple) => put_tuple_text(alloc, out, tuple),
@@ -63,20 +62,22 @@ fn put_origin_line(alloc: Global, out: &mut Vec<u8>, origin: &Origin) -> Result<
             put(out, b"opaque:")?;
             put_decimal(alloc, out, opaque.document)?;
             put(out, b":")?;
-            put_site_text(out, &opaque.precursor)
+            put_site_text(alloc, out, &opaque.precursor)
         }
     }
 }
 
-pub fn put_site(out: &mut Vec<u8>, site: &Site) -> Result<(), NoMemory>
-    ensures { OnOk result (out.new.items ≡ out.old.items ++ lines.field (origins.site_text site.now)) }
+pub fn put_site(alloc: Global, out: &mut Vec<u8>, site: &Site) -> Result<(), NoMemory>
+    ensures text { OnOk result (out.new.items ≡ out.old.items ++ lines.field (origins.site_text site.now)) }
+    ensures kept { GrowsTo out.old.items out.new.items }
 {
     put(out, b" ")?;
-    put_site_text(out, site)
+    put_site_text(alloc, out, site)
 }
 
 pub fn put_origin(alloc: Global, out: &mut Vec<u8>, origin: &Origin) -> Result<(), NoMemory>
-    ensures { OnOk result (out.new.items ≡ out.old.items ++ lines.field (lines.origin_line origin.now)) }
+    ensures text { OnOk result (out.new.items ≡ out.old.items ++ lines.field (lines.origin_line origin.now)) }
+    ensures kept { GrowsTo out.old.items out.new.items }
 {
     put(out, b" ")?;
     put_origin_line(alloc, out, origin)

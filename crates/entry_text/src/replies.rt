@@ -2,6 +2,7 @@
 
 ghost use Rattle.std.specs.Prelude.{◌≡◌, ◌++◌, IfOk, OnOk, codes};
 ghost use Rattle.entry_text.specs.Lines as lines;
+ghost use Rattle.entry_text.specs.Printing.{GrowsTo};
 
 use crate::fields::{put, put_hex, put_rule};
 use history_entry::Reply;
@@ -10,7 +11,8 @@ use std::alloc::Global;
 
 #[tactic(auto, unfolding(crate::specs::Lines::reply_text))]
 fn put_reply_text(alloc: Global, out: &mut Vec<u8>, reply: &Reply) -> Result<(), NoMemory>
-    ensures { OnOk result (out.new.items ≡ out.old.items ++ lines.reply_text reply.now) }
+    ensures text { OnOk result (out.new.items ≡ out.old.items ++ lines.reply_text reply.now) }
+    ensures kept { GrowsTo out.old.items out.new.items }
 {
     match reply {
         Reply::Ok => put(out, b"ok"),
@@ -35,7 +37,8 @@ fn put_reply_text(alloc: Global, out: &mut Vec<u8>, reply: &Reply) -> Result<(),
 
 /// Appends an arrow and a reply.
 pub fn put_reply(alloc: Global, out: &mut Vec<u8>, reply: &Reply) -> Result<(), NoMemory>
-    ensures { OnOk result (out.new.items ≡ out.old.items ++ (codes " => " ++ lines.reply_text reply.now)) }
+    ensures text { OnOk result (out.new.items ≡ out.old.items ++ (codes " => " ++ lines.reply_text reply.now)) }
+    ensures kept { GrowsTo out.old.items out.new.items }
 {
     put(out, b" => ")?;
     put_reply_text(alloc, out, reply)

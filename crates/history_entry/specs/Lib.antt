@@ -1,3 +1,4 @@
 pub mod RuleText
 pub mod Kinds
 pub mod CarriedRules
+pub mod Numbers

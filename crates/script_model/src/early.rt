@@ -4,16 +4,16 @@ ghost use Rattle.std.specs.Prelude.{◌≡◌, IfOk};
 ghost use Rattle.page_origin.specs.PageUrls.{class_of};
 ghost use Rattle.page_origin.specs.Origins.{equal_sites};
 ghost use Rattle.site_url.specs.Sites.{site_of, site_of_origin};
-ghost use Rattle.cors_check.specs.Chains.{IsWebChain, is_same_origin_chain};
+ghost use Rattle.cors_check.specs.Chains.{IsWebChain};
 ghost use Rattle.cors_check.specs.Cors.{cors};
 ghost use Rattle.script_model.specs.Verdicts as verdicts;
 
 use crate::verdict::{Verdict, cors_verdict, is_protected, is_protected_or_plain};
-use cors_check::{Cors, check, compared_text};
+use cors_check::{Cors, check, compared_text, is_same_origin_chain};
 use history_entry::{Mode, Policy, Rule};
 use http::StatusCode;
 use mime_kind::{Head, ResourcePolicy, kind_of, nosniff, resource_policy};
-use page_origin::{NoMemory, Origin, PageUrl, UrlClass, has_origin, tuple_of};
+use page_origin::{NoMemory, Origin, PageUrl, UrlClass, tuple_of};
 use site_url::{SiteRules, same_site};
 use std::alloc::Global;
 
@@ -51,14 +51,6 @@ fn is_same_site_chain(
         }
     }
     Ok(true)
-}
-
-/// Whether every URL of a chain has an origin.
-fn is_same_origin_chain(origin: &Origin, chain: &[PageUrl]) -> bool
-    requires { IsWebChain chain.now }
-    ensures { result ≡ is_same_origin_chain origin.now chain.now }
-{
-    chain.iter().all(|url| has_origin(url, origin))
 }
 
 /// Whether a resource policy leaves out a request of an origin with a chain.

@@ -8,7 +8,7 @@ invariant-writes g l = record {
   within : l.sent ≤ length l.bytes;
   gained : Appends (g.K.Sink.written l.initial.sink) (g.K.Sink.written l.sink) (take l.sent l.bytes);
   untouched : l.sent ≡ 0 → l.sink ≡ l.initial.sink;
-  later : g.K.Sink.faults l.initial.sink ≤ g.K.Sink.faults l.sink;
+  calm : g.K.Sink.faults l.sink ≡ g.K.Sink.faults l.initial.sink;
   telling : KeepsTelling (g.K.Sink.written l.initial.sink) (g.K.Sink.written l.sink);
 }
 
