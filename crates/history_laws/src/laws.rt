@@ -6,8 +6,10 @@ ghost use Rattle.history_laws.specs.CommitLaw.{CommitLaw};
 ghost use Rattle.history_laws.specs.JudgementLaw.{HonestLaw, JudgementLaw};
 ghost use Rattle.history_laws.specs.KillLaw.{KillLaw};
 ghost use Rattle.history_laws.specs.Laws.{LawsHold};
+ghost use Rattle.history_laws.specs.PolicyLaw.{RefusesByServiceRules, RulesAreOfThePolicy};
 ghost use Rattle.history_laws.specs.ReceiveLaw.{ReceiveLaw};
 ghost use Rattle.history_rules.specs.Services.{ServiceRule};
+ghost use Rattle.history_rules.specs.Store.{store_rule};
 ghost use Rattle.history_steps.specs.Objects.{HasOneRun, HasOneSpelling, HasRun, IsBounded, RunsAreLegal};
 ghost use Rattle.history_steps.specs.Run.{Legal};
 ghost use Rattle.script_model.specs.ScriptData.{ScriptData};
@@ -37,7 +39,14 @@ pub fn honest_documents_are_spared()
     ensures { (rule : ServiceRule) (s : ScriptData) (h : List Entry) → Legal rule s h → HonestLaw s h }
 {}
 
-/// All of these.
+/// Under the first policy no entry carries B8, so a text of that policy has none. The services refuse by rules of their own, as
+/// `store` does.
+pub fn rules_are_of_the_policy()
+    ensures law { (rule : ServiceRule) (s : ScriptData) → RulesAreOfThePolicy rule s }
+    ensures store { RefusesByServiceRules store_rule }
+{}
+
+/// The commit, receive, judgement, kill and honest laws together.
 pub fn laws_hold()
     ensures { (rule : ServiceRule) (s : ScriptData) → LawsHold rule s }
 {}
