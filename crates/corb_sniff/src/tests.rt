@@ -1,5 +1,12 @@
+//! Rows of the rules of sniffing, fed whole, in pieces and byte by byte.
+
 use crate::{Answer, SniffKind, Sniffed, Sniffer, sniff};
 use std::test::Fail;
+
+mod kinds;
+mod markup;
+mod objects;
+mod window;
 
 const HTML: Answer = Answer::Confirmed(Sniffed::Html);
 
@@ -29,6 +36,18 @@ fn fed_whole(kind: SniffKind, body: &[u8]) -> Answer {
     let mut sniffer = Sniffer::new(kind);
     let _answer = sniffer.feed(body);
     sniffer.finish()
+}
+
+/// After how many bytes of a body, fed singly, its answer is another than `More`, and that answer.
+fn settled(kind: SniffKind, body: &[u8]) -> Option<(usize, Answer)> {
+    let mut sniffer = Sniffer::new(kind);
+    for (index, byte) in body.iter().enumerate() {
+        let answer = sniffer.feed(&[*byte]);
+        if answer != Answer::More {
+            return Some((index + 1, answer));
+        }
+    }
+    None
 }
 
 /// A kind, the pieces of a body each with the answer after it, and the answer at the end.

@@ -5,12 +5,13 @@ use Rattle.history_entry.specs.declared.body.Message.{Message}
 use Rattle.history_entry.specs.declared.entry.Entry.{Entry}
 use Rattle.history_entry.specs.declared.reply.Reply.{Reply}
 use Rattle.entry_text.specs.Lines.{entry_text, message_text, reply_text}
-use Rattle.entry_reading.specs.declared.stop.ReadStop.{ReadStop}
-use Rattle.entry_reading.specs.declared.stop.ReadStop.TheVariants.{BadLine, NoMemory}
+use Rattle.entry_reading.specs.declared.stop.EntryStop.{EntryStop}
+use Rattle.entry_reading.specs.declared.stop.EntryStop.TheVariants.{BadLine, NoMemory}
 use Rattle.entry_reading.specs.declared.stop.MessageStop.{MessageStop}
 use Rattle.entry_reading.specs.declared.stop.MessageStop.TheVariants.{BadMessage, NoMemory as NoRoomForMessage}
 use Rattle.entry_reading.specs.declared.stop.ReplyStop.{ReplyStop}
 use Rattle.entry_reading.specs.declared.stop.ReplyStop.TheVariants.{BadReply, NoMemory as NoRoomForReply}
+use Rattle.entry_reading.specs.Answers.{Gives}
 use Rattle.entry_reading.specs.Bodies.{message, reply}
 use Rattle.entry_reading.specs.Entries.{IsMessage, IsReply}
 use Rattle.entry_reading.specs.Fields.{taken}
@@ -50,8 +51,21 @@ misread text found reads other e valid is =
     let same : found ≡ e = cc in
     other (ap entry_text same ∙ is)
 
+-- no entry, for this reason
+abbrev pub no_entry : EntryStop → Result Entry EntryStop
+no_entry stop = Err stop
+
+-- a reader that stops does so at a line that is no spelling, or for want of memory
+pub stopped_bad : (text : List ℕ) (stop : EntryStop) → Gives (no_entry stop) (entry_of text) → no_entry stop ≡ Err BadLine → SpellsNone text
+stopped_bad text BadLine nothing is = unread text nothing
+stopped_bad text NoMemory nothing is = absurd (cc)
+
+pub stopped_back : (text : List ℕ) (stop : EntryStop) → Gives (no_entry stop) (entry_of text) → (e : Entry) → Spells text e → (no_entry stop ≡ Ok e) ⊎ (no_entry stop ≡ Err NoMemory)
+stopped_back text BadLine nothing e is = absurd (unread text nothing e is.0 is.1)
+stopped_back text NoMemory nothing e is = inr refl
+
 -- what is spelled is answered, or memory ran out
-pub entry_answered : (text : List ℕ) (result : Result Entry ReadStop) → IfOk result (Spells text) → (result ≡ Err BadLine → SpellsNone text) → (e : Entry) → Spells text e → (result ≡ Ok e) ⊎ (result ≡ Err NoMemory)
+pub entry_answered : (text : List ℕ) (result : Result Entry EntryStop) → IfOk result (Spells text) → (result ≡ Err BadLine → SpellsNone text) → (e : Entry) → Spells text e → (result ≡ Ok e) ⊎ (result ≡ Err NoMemory)
 entry_answered text (Ok found) good bad e is = inl (ap (λ (x : Entry). Ok x) (one_spelling found e good.0 is.0 (good.1 ∙ sym is.1)))
 entry_answered text (Err BadLine) good bad e is = absurd (bad refl e is.0 is.1)
 entry_answered text (Err NoMemory) good bad e is = inr refl

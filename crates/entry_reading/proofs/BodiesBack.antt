@@ -1,5 +1,5 @@
 -- Bodies, messages and replies are read back from their spellings, and their bytes are printable.
-use Rattle.std.proofs.Common.{◌≡◌, ℕ, ◌<◌, ◌^◌, Bool, true, false, List, [], ◌∷◌, ◌++◌, drop, Some, refl, ap, append_assoc, append-nil}
+use Rattle.std.proofs.Common.{◌≡◌, ℕ, Bool, true, false, List, [], ◌∷◌, ◌++◌, drop, Some, refl, ap, append_assoc, append-nil}
 use Rattle.std.specs.Prelude.{IsUtf8, codes, decimal}
 use Rattle.hex.specs.Hex.{IsBytes}
 use Rattle.std.proofs.lemmas.Bool.{and_parts}
@@ -11,7 +11,9 @@ use Rattle.page_origin.specs.declared.origin.Origin.TheVariants.{Opaque, Tuple}
 use Rattle.page_origin.specs.declared.site.Scheme.{Scheme}
 use Rattle.page_origin.specs.declared.site.Scheme.TheVariants.{Http, Https}
 use Rattle.page_origin.specs.HostSpelling.{is_host}
+use Rattle.history_entry.specs.Numbers.{decimal_number}
 use Rattle.history_entry.specs.RuleText.{rule_text}
+use Rattle.history_entry.proofs.Numerals.{number_back}
 use Rattle.history_entry.specs.declared.rule.Rule.{Rule}
 use Rattle.history_entry.specs.declared.body.Body.{Body}
 use Rattle.history_entry.specs.declared.body.Body.TheVariants.{AddFrame, Ask, DidCommit, Fetch, Navigate, OpenPage, Post, RemoveFrame}
@@ -25,20 +27,20 @@ use Rattle.history_entry.specs.declared.body.Target.TheVariants.{Any, Of, Own}
 use Rattle.history_entry.specs.declared.reply.Reply.{Reply}
 use Rattle.history_entry.specs.declared.reply.Reply.TheVariants.{Answer, Deny, Drop, Kill, Ok as Okay}
 use Rattle.entry_text.specs.Lines.{body_text, field, hex_text, mode_text, origin_line, reply_text, sandbox_text, src_text, target_text}
-use Rattle.entry_reading.specs.Entries.{IsBody, IsMessage, IsNumber, IsOrigin, IsReply, IsSite, IsSource, IsTarget}
-use Rattle.entry_reading.specs.Fields.{before, behind, field_by, number_of, origin_of, rule_of, site_of, text_of, ◌>>=◌}
+use Rattle.entry_reading.specs.Entries.{IsBody, IsMessage, IsNumber, IsOrigin, IsPort, IsReply, IsSite, IsSource, IsTarget}
+use Rattle.entry_reading.specs.Fields.{before, behind, field_by, origin_of, rule_of, site_of, text_of, ◌>>=◌}
 use Rattle.entry_reading.specs.Bodies.{add_frame, ask, body_by, did_commit, fetch, message, mode_of, navigate, open_page, post, remove_frame, reply, sandbox_of, src, target_of}
-use Rattle.entry_reading.proofs.Visible.{are_printable, are_visible, printable_from_visible}
-use Rattle.entry_reading.proofs.FieldsBack.{decimal_visible, field_back, goes_on, hex_visible, number_of-decimal, text_back, text_bytes}
+use Rattle.page_origin.proofs.Spellings.{are_printable, are_visible, printable_from_visible}
+use Rattle.entry_reading.proofs.FieldsBack.{decimal_visible, field_back, goes_on, hex_visible, text_back, text_bytes}
 use Rattle.entry_reading.proofs.OriginsBack.{origin_back, tuple_back, origin_visible, site_back, site_visible}
 use Rattle.entry_reading.proofs.RulesBack.{rule_back, rule_visible}
 
 -- ---- each kind of field, with what stands behind it, and at the end
 
-pub number_again : (n : ℕ) → IsNumber n → (rest : List ℕ) → goes_on 32 rest ≡ true → field_by number_of (decimal n ++ rest) ≡ Some (n, drop 1 rest)
-number_again n small rest on = field_back number_of (decimal n) rest n (decimal_visible n small) on (number_of-decimal n small)
+pub number_again : (n : ℕ) → IsNumber n → (rest : List ℕ) → goes_on 32 rest ≡ true → field_by decimal_number (decimal n ++ rest) ≡ Some (n, drop 1 rest)
+number_again n small rest on = field_back decimal_number (decimal n) rest n (decimal_visible n small) on (number_back n small)
 
-pub number_last : (n : ℕ) → IsNumber n → field_by number_of (decimal n) ≡ Some (n, [])
+pub number_last : (n : ℕ) → IsNumber n → field_by decimal_number (decimal n) ≡ Some (n, [])
 number_last n small = rw append-nil at (number_again n small [] refl)
 
 pub origin_again : (origin : Origin) → IsOrigin origin → (rest : List ℕ) → goes_on 32 rest ≡ true → field_by origin_of (origin_line origin ++ rest) ≡ Some (origin, drop 1 rest)
@@ -68,7 +70,7 @@ sandbox_again true rest on = field_back sandbox_of (codes "sandboxed") rest true
 sandbox_again false rest on = field_back sandbox_of (codes "plain") rest false refl on refl
 
 -- an origin is longer than a mark
-tuple_target : (scheme : Scheme) (host : List ℕ) (port : ℕ) → is_host host ≡ true → port < 2 ^ 16 → target_of (tuple_text (record { scheme = scheme; host = host; port = port })) ≡ Some (Of (Tuple (record { scheme = scheme; host = host; port = port })))
+tuple_target : (scheme : Scheme) (host : List ℕ) (port : ℕ) → is_host host ≡ true → IsPort port → target_of (tuple_text (record { scheme = scheme; host = host; port = port })) ≡ Some (Of (Tuple (record { scheme = scheme; host = host; port = port })))
 tuple_target Http host port valid small = ap (λ read. read >>= λ origin. Some (Of origin)) (tuple_back Http host port valid small)
 tuple_target Https host port valid small = ap (λ read. read >>= λ origin. Some (Of origin)) (tuple_back Https host port valid small)
 

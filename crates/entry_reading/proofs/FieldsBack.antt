@@ -1,23 +1,21 @@
 -- Each field is read back from its spelling.
-use Rattle.std.proofs.Common.{◌≡◌, ℕ, ◌+◌, ◌-◌, ◌*◌, ◌<◌, ◌≤◌, ◌^◌, ◌/◌, ◌%◌, Bool, true, false, ◌&&◌, ◌==◌, List, [], ◌∷◌, ◌++◌, length, get_or, drop, Some, refl, ap, ◌∙◌, arith, rules, ⊎_elim, suc, zero}
+use Rattle.std.proofs.Common.{◌≡◌, ℕ, ◌<◌, ◌/◌, ◌%◌, Bool, true, false, ◌&&◌, ◌==◌, List, [], ◌∷◌, ◌++◌, length, get_or, drop, Some, refl, sym, ap, eq-eqb, ◌∙◌, append-nil, arith, ⊎_elim, suc, zero}
 use Rattle.std.specs.Prelude.{Option, IsUtf8, bytes_eq, codes, decimal, nat_lt}
 use Rattle.std.specs.List.{list_all}
 use Rattle.std.specs.Char.{is_ascii_digit}
-use Rattle.std.specs.Str.{all_ascii_digits}
 use Rattle.std.proofs.lemmas.Bool.{cases_eq, and_parts, ne_eqb, both_ways}
 use Rattle.std.proofs.lemmas.Bool.Decides.{nat_tests}
 use Rattle.std.proofs.lemmas.Str.{is_utf8-from_IsUtf8}
-use Rattle.std.proofs.lemmas.Str.Parse.{IsNumeralModel, numerals_by_fold, tells_all_ascii_digits}
-use Rattle.std.proofs.lemmas.Fmt.{digits_decimal, digits_value-decimal, decimal_nonempty}
 use Rattle.std.proofs.lemmas.List.Folds.{list_all-append}
 use Rattle.hex.specs.Hex.{IsBytes, encode_lower, encode_with, lower_digits}
 use Rattle.hex.proofs.HexLemmas.{decode_of-encode_lower}
 use lib.Utf8.{encode, encodes, scalar, scalars}
 use Rattle.page_origin.specs.UrlText.{is_url_spelling}
+use Rattle.history_entry.proofs.Numerals.{decimal_digits}
 use Rattle.entry_text.specs.Lines.{hex_text}
 use Rattle.entry_reading.specs.Entries.{IsNumber}
-use Rattle.entry_reading.specs.Fields.{before, behind, bytes_of, field_by, number_from, number_of, piece_of, text_of, url_of}
-use Rattle.entry_reading.proofs.Visible.{are_visible, is_visible, list_all-weaker}
+use Rattle.entry_reading.specs.Fields.{before, behind, bytes_of, field_by, is_other, piece_of, text_of, url_of}
+use Rattle.page_origin.proofs.Spellings.{are_visible, is_visible, list_all-weaker}
 
 -- ---- up to a mark
 
@@ -43,50 +41,29 @@ behind_mark mark p (b ∷ text) rest other all on =
     let parts = and_parts (p b) (list_all p text) all in
     rw (differs mark p b other parts.0) (behind_mark mark p text rest other parts.1 on)
 
+-- a mark parts a text
+pub around_mark : (mark : ℕ) (text front rest : List ℕ) → text ≡ front ++ mark ∷ rest → list_all (is_other mark) front ≡ true → (front ≡ before mark text) × (rest ≡ behind mark text)
+around_mark mark text front rest whole others =
+    let on : goes_on mark (mark ∷ rest) ≡ true = eq-eqb mark mark refl in
+    let other : is_other mark mark ≡ false = rw (eq-eqb mark mark refl) refl in (
+      rw whole (sym (before_mark mark (is_other mark) front (mark ∷ rest) other others on)),
+      rw whole (sym (behind_mark mark (is_other mark) front (mark ∷ rest) other others on)),
+    )
+
+-- a text without a mark is all before it
+pub around_none : (mark : ℕ) (text : List ℕ) → list_all (is_other mark) text ≡ true → (text ≡ before mark text) × ([] ≡ behind mark text)
+around_none mark text others =
+    let other : is_other mark mark ≡ false = rw (eq-eqb mark mark refl) refl in (
+      sym (ap (before mark) (sym (append-nil text)) ∙ before_mark mark (is_other mark) text [] other others refl),
+      sym (ap (behind mark) (sym (append-nil text)) ∙ behind_mark mark (is_other mark) text [] other others refl),
+    )
+
 -- a field of visible bytes is read by itself
 pub field_back : {A : Type 0} (read : List ℕ → Option A) (text rest : List ℕ) (x : A) → are_visible text ≡ true → goes_on 32 rest ≡ true → read text ≡ Some x → field_by read (text ++ rest) ≡ Some (x, drop 1 rest)
 field_back read text rest x visible on is =
     rw (before_mark 32 is_visible text rest refl visible on, behind_mark 32 is_visible text rest refl visible on, is) refl
 
 -- ---- numbers
-
--- the number that digits write after a number
-abbrev pub read_on : ℕ → List ℕ → ℕ
-read_on n [] = n
-read_on n (c ∷ cs) = read_on (n * 10 + (c - 48)) cs
-
-own : IsNumeralModel (λ ds. all_ascii_digits ds ≡ true) (read_on 0)
-own = numerals_by_fold _ tells_all_ascii_digits read_on (search rules)
-
-read_on_grows : (n : ℕ) (ds : List ℕ) → n ≤ read_on n ds
-read_on_grows n [] = omega arith
-read_on_grows n (c ∷ cs) = omega (arith, read_on_grows (n * 10 + (c - 48)) cs)
-
-number_from_digits : (n : ℕ) (ds : List ℕ) → all_ascii_digits ds ≡ true → read_on n ds < 2 ^ 32 → number_from n ds ≡ Some (read_on n ds)
-number_from_digits n [] digits small = refl
-number_from_digits n (c ∷ cs) digits small =
-    let parts = and_parts (is_ascii_digit c) (all_ascii_digits cs) digits in
-    let fits : n * 10 + (c - 48) < 2 ^ 32 = omega (arith, read_on_grows (n * 10 + (c - 48)) cs) in
-    let test : nat_lt (n * 10 + (c - 48)) (2 ^ 32) ≡ true = grind (arith, nat_tests) in
-    rw (parts.0, test) (number_from_digits (n * 10 + (c - 48)) cs parts.1 small)
-
-pub number_of-decimal : (n : ℕ) → IsNumber n → number_of (decimal n) ≡ Some n
-unfolding number_of
-number_of-decimal n small =
-    let wide : n < 2 ^ 64 = omega arith in
-    let value = digits_value-decimal own n wide in
-    let reads = number_from_digits 0 (decimal n) (digits_decimal own n wide) (rw value small) in
-    let some : (length (decimal n) == 0) ≡ false = ne_eqb (length (decimal n)) 0 (omega (arith, decimal_nonempty n wide)) in
-    rw some (reads ∙ ap Some value)
-
-all_digits : (ds : List ℕ) → all_ascii_digits ds ≡ true → list_all is_ascii_digit ds ≡ true
-all_digits [] digits = refl
-all_digits (c ∷ cs) digits =
-    let parts = and_parts (is_ascii_digit c) (all_ascii_digits cs) digits in
-    rw (parts.0, all_digits cs parts.1) refl
-
-pub decimal_digits : (n : ℕ) → IsNumber n → list_all is_ascii_digit (decimal n) ≡ true
-decimal_digits n small = all_digits (decimal n) (digits_decimal own n (omega arith))
 
 digit_visible : (b : ℕ) → is_ascii_digit b ≡ true → is_visible b ≡ true
 digit_visible b is = grind (arith, nat_tests)

@@ -22,7 +22,7 @@ use Rattle.entry_text.specs.Lines.{body_text, entry_text, field, hex_text, hop_t
 use Rattle.entry_reading.specs.Entries.{IsEntry, IsHopOf, IsMessage, IsNumber, IsOrigin, IsReply, IsSite, IsWhat}
 use Rattle.entry_reading.specs.Fields.{before, field_by, piece_of}
 use Rattle.entry_reading.specs.Reading.{commit, end, entry_by, entry_of, head, hop, hop_of, how, local, nav_end, order, piece, said, what}
-use Rattle.entry_reading.proofs.Visible.{are_printable, url_printable}
+use Rattle.page_origin.proofs.Spellings.{are_printable, url_printable}
 use Rattle.entry_reading.proofs.FieldsBack.{before_mark, field_back, goes_on, hex_visible, piece_back, url_back}
 use Rattle.entry_reading.proofs.BodiesBack.{body_printable, bytes_printable, message_again, number_again, number_last, number_printable, origin_again, origin_printable, printable_append, reply_last, reply_printable, rule_last, rule_printable, site_again, site_printable, text_again, text_last, text_printable}
 

@@ -1,12 +1,12 @@
 -- Sites and origins are read back from their spellings.
-use Rattle.std.proofs.Common.{◌≡◌, ℕ, ◌+◌, ◌-◌, ◌<◌, ◌^◌, true, ◌==◌, List, [], ◌∷◌, ◌++◌, length, get_or, take, drop, Some, refl, sym, ap, arith, ⊎_elim, append_assoc, suc, zero}
-use Rattle.std.specs.Prelude.{codes, decimal, nat_lt, if◌then◌else◌}
-use Rattle.std.specs.List.{list_all}
+use Rattle.std.proofs.Common.{◌≡◌, ℕ, ◌-◌, ◌^◌, true, false, ◌==◌, List, [], ◌∷◌, ◌++◌, length, get_or, take, drop, Some, None, refl, sym, ap, arith, ⊎_elim, append_assoc, suc, zero}
+use Rattle.std.specs.Prelude.{IfSome, Option, codes, decimal, nat_eq, nat_lt}
+use Rattle.std.specs.List.{list_all, starts_with}
 use Rattle.std.specs.Char.{is_ascii_digit}
 use Rattle.std.proofs.lemmas.Bool.{cases_Bool, and_parts, eqb-true}
 use Rattle.std.proofs.lemmas.Bool.Decides.{nat_tests}
 use Rattle.page_origin.specs.HostSpelling.{is_address_byte, is_host, is_name_byte}
-use Rattle.page_origin.specs.Origins.{default_port_of, site_text, tuple_text}
+use Rattle.page_origin.specs.Origins.{default_port_of, port_text, site_text, tuple_text}
 use Rattle.page_origin.specs.declared.site.Scheme.{Scheme}
 use Rattle.page_origin.specs.declared.site.Scheme.TheVariants.{Http, Https}
 use Rattle.page_origin.specs.declared.site.Site.{Site}
@@ -14,10 +14,11 @@ use Rattle.page_origin.specs.declared.origin.TupleOrigin.{TupleOrigin}
 use Rattle.page_origin.specs.declared.origin.Origin.{Origin}
 use Rattle.page_origin.specs.declared.origin.Origin.TheVariants.{Opaque, Tuple}
 use Rattle.entry_text.specs.Lines.{origin_line}
-use Rattle.entry_reading.specs.Entries.{IsNumber, IsOrigin, IsSite}
-use Rattle.entry_reading.specs.Fields.{before, host_length, number_of, opaque_of, origin_of, port_of, site_of, tuple_by, tuple_of, ◌>>=◌}
-use Rattle.entry_reading.proofs.Visible.{IsAddress, address_of, are_visible, host_visible, is_visible, second_answer}
-use Rattle.entry_reading.proofs.FieldsBack.{before_mark, behind_mark, decimal_digits, decimal_visible, differs, goes_on, number_of-decimal}
+use Rattle.entry_reading.specs.Entries.{IsNumber, IsOrigin, IsPort, IsSite}
+use Rattle.entry_reading.specs.Fields.{before, host_length, opaque_of, origin_of, port_of, site_of, tuple_by, tuple_of}
+use Rattle.page_origin.proofs.Spellings.{IsAddress, address_of, are_visible, host_visible, is_visible, second_answer}
+use Rattle.entry_reading.proofs.FieldsBack.{before_mark, behind_mark, decimal_visible, differs, goes_on}
+use Rattle.history_entry.proofs.Numerals.{decimal_digits, number_back}
 
 -- ---- the host at the front
 
@@ -57,50 +58,56 @@ host_long (b ∷ text) rest is on =
 
 -- ---- tuples
 
-abbrev port_text : Scheme → ℕ → List ℕ
-port_text scheme port = if port == default_port_of scheme then [] else codes ":" ++ decimal port
-
 port_goes_on : (scheme : Scheme) (port : ℕ) → goes_on 58 (port_text scheme port) ≡ true
 port_goes_on scheme port = ⊎_elim (λ own. rw own refl) (λ other. rw other refl) (cases_Bool (port == default_port_of scheme))
 
-port_back : (scheme : Scheme) (port : ℕ) → port < 2 ^ 16 → port_of scheme (port_text scheme port) ≡ Some port
+port_back : (scheme : Scheme) (port : ℕ) → IsPort port → port_of scheme (port_text scheme port) ≡ Some port
 port_back scheme port small =
     ⊎_elim
     (λ own. let e : port ≡ default_port_of scheme = eqb-true port (default_port_of scheme) own in rw own (ap (λ (n : ℕ). Some n) (sym e)))
     (λ other.
     let test : nat_lt port (2 ^ 16) ≡ true = grind (arith, nat_tests) in
-    rw other (rw (number_of-decimal port (omega arith)) (rw test refl)))
+    rw other (rw (number_back port (omega arith)) (rw test refl)))
     (cases_Bool (port == default_port_of scheme))
 
 abbrev tuple : Scheme → List ℕ → ℕ → TupleOrigin
 tuple scheme host port = record { scheme = scheme; host = host; port = port }
 
-host_port_back : (scheme : Scheme) (host : List ℕ) (port : ℕ) → is_host host ≡ true → port < 2 ^ 16 → tuple_by scheme (host ++ port_text scheme port) ≡ Some (tuple scheme host port)
+host_port_back : (scheme : Scheme) (host : List ℕ) (port : ℕ) → is_host host ≡ true → IsPort port → tuple_by scheme (host ++ port_text scheme port) ≡ Some (tuple scheme host port)
 host_port_back scheme host port valid small =
     rw (host_long host (port_text scheme port) valid (port_goes_on scheme port))
     (rw (take_front host (port_text scheme port), drop_front host (port_text scheme port), valid)
     (rw (port_back scheme port small) refl))
 
-pub tuple_back : (scheme : Scheme) (host : List ℕ) (port : ℕ) → is_host host ≡ true → port < 2 ^ 16 → origin_of (tuple_text (tuple scheme host port)) ≡ Some (Tuple (tuple scheme host port))
-unfolding origin_of tuple_of
-tuple_back Http host port valid small = ap (λ o. o >>= λ tuple. Some (Tuple tuple)) (host_port_back Http host port valid small)
-tuple_back Https host port valid small = ap (λ o. o >>= λ tuple. Some (Tuple tuple)) (host_port_back Https host port valid small)
+tuple_read : (scheme : Scheme) (host : List ℕ) (port : ℕ) → is_host host ≡ true → IsPort port → tuple_of (tuple_text (tuple scheme host port)) ≡ Some (tuple scheme host port)
+unfolding tuple_of
+tuple_read Http host port valid small = host_port_back Http host port valid small
+tuple_read Https host port valid small = host_port_back Https host port valid small
+
+not_opaque : (scheme : Scheme) (host : List ℕ) (port : ℕ) → starts_with nat_eq (tuple_text (tuple scheme host port)) (codes "opaque:") ≡ false
+not_opaque Http host port = refl
+not_opaque Https host port = refl
+
+pub tuple_back : (scheme : Scheme) (host : List ℕ) (port : ℕ) → is_host host ≡ true → IsPort port → origin_of (tuple_text (tuple scheme host port)) ≡ Some (Tuple (tuple scheme host port))
+unfolding origin_of
+tuple_back scheme host port valid small = rw (not_opaque scheme host port, tuple_read scheme host port valid small) refl
 
 -- ---- sites
 
-site_by : (scheme : Scheme) (host : List ℕ) → is_host host ≡ true → site_of (site_text (record { scheme = scheme; host = host })) ≡ Some (record { scheme = scheme; host = host })
+site_by : (scheme : Scheme) (host : List ℕ) (only : Option ℕ) → is_host host ≡ true → IfSome only IsPort → site_of (site_text (record { scheme = scheme; host = host; only = only })) ≡ Some (record { scheme = scheme; host = host; only = only })
 unfolding site_of
-site_by Http host valid = rw valid refl
-site_by Https host valid = rw valid refl
+site_by Http host None valid small = rw valid refl
+site_by Https host None valid small = rw valid refl
+site_by scheme host (Some port) valid small = rw (tuple_read scheme host port valid small) refl
 
 pub site_back : (site : Site) → IsSite site → site_of (site_text site) ≡ Some site
-site_back site valid = site_by site.scheme site.host valid
+site_back site valid = site_by site.scheme site.host site.only valid.0 valid.1
 
 opaque_back : (document : ℕ) (site : Site) → IsNumber document → IsSite site → opaque_of (decimal document ++ 58 ∷ site_text site) ≡ Some (Opaque (record { document = document; precursor = site }))
 opaque_back document site small valid =
     rw (before_mark 58 is_ascii_digit (decimal document) (58 ∷ site_text site) refl (decimal_digits document small) refl)
     (rw (behind_mark 58 is_ascii_digit (decimal document) (58 ∷ site_text site) refl (decimal_digits document small) refl)
-    (rw (number_of-decimal document small) (rw (site_back site valid) refl)))
+    (rw (number_back document small) (rw (site_back site valid) refl)))
 
 opaque_parts : (document site : List ℕ) → (document ++ codes ":") ++ site ≡ document ++ 58 ∷ site
 opaque_parts document site = append_assoc document (58 ∷ []) site
@@ -118,19 +125,20 @@ visible_append (x ∷ a) b first second =
     let parts = and_parts (is_visible x) (are_visible a) first in
     rw (parts.0, visible_append a b parts.1 second) refl
 
-site_by_visible : (scheme : Scheme) (host : List ℕ) → is_host host ≡ true → are_visible (site_text (record { scheme = scheme; host = host })) ≡ true
-site_by_visible Http host valid = host_visible host valid
-site_by_visible Https host valid = host_visible host valid
-
-pub site_visible : (site : Site) → IsSite site → are_visible (site_text site) ≡ true
-site_visible site valid = site_by_visible site.scheme site.host valid
-
-port_visible : (scheme : Scheme) (port : ℕ) → port < 2 ^ 16 → are_visible (port_text scheme port) ≡ true
+port_visible : (scheme : Scheme) (port : ℕ) → IsPort port → are_visible (port_text scheme port) ≡ true
 port_visible scheme port small = ⊎_elim (λ own. rw own refl) (λ other. rw other (decimal_visible port (omega arith))) (cases_Bool (port == default_port_of scheme))
 
-tuple_visible : (scheme : Scheme) (host : List ℕ) (port : ℕ) → is_host host ≡ true → port < 2 ^ 16 → are_visible (tuple_text (tuple scheme host port)) ≡ true
+tuple_visible : (scheme : Scheme) (host : List ℕ) (port : ℕ) → is_host host ≡ true → IsPort port → are_visible (tuple_text (tuple scheme host port)) ≡ true
 tuple_visible Http host port valid small = visible_append host (port_text Http port) (host_visible host valid) (port_visible Http port small)
 tuple_visible Https host port valid small = visible_append host (port_text Https port) (host_visible host valid) (port_visible Https port small)
+
+site_by_visible : (scheme : Scheme) (host : List ℕ) (only : Option ℕ) → is_host host ≡ true → IfSome only IsPort → are_visible (site_text (record { scheme = scheme; host = host; only = only })) ≡ true
+site_by_visible Http host None valid small = host_visible host valid
+site_by_visible Https host None valid small = host_visible host valid
+site_by_visible scheme host (Some port) valid small = tuple_visible scheme host port valid small
+
+pub site_visible : (site : Site) → IsSite site → are_visible (site_text site) ≡ true
+site_visible site valid = site_by_visible site.scheme site.host site.only valid.0 valid.1
 
 pub origin_visible : (origin : Origin) → IsOrigin origin → are_visible (origin_line origin) ≡ true
 unfolding origin_line

@@ -2,9 +2,9 @@
 use Rattle.std.proofs.Common.{◌≡◌, true, Some, refl}
 use Rattle.history_entry.specs.RuleText.{rule_text}
 use Rattle.history_entry.specs.declared.rule.Rule.{Rule}
-use Rattle.history_entry.specs.declared.rule.Rule.TheVariants.{K1, K2, K3, K4, K5, K6, K7, K8, K9, K10, G1, G2, G3, M1, M2, N1, N2, N3, N4, N5, N6, N7, N8, N9, F1, L1, L2, S1, S2, S3, S4, A1, A2, A3, A4, A5, B1, B2, B3, B4, B5, B6, B7}
+use Rattle.history_entry.specs.declared.rule.Rule.TheVariants.{K1, K2, K3, K4, K5, K6, K7, K8, K9, K10, G1, G2, G3, M1, M2, N1, N2, N3, N4, N5, N6, N7, N8, N9, F1, L1, L2, S1, S2, S3, S4, A1, A2, A3, A4, A5, B1, B2, B3, B4, B5, B6, B7, B8}
 use Rattle.entry_reading.specs.Fields.{has_code, rule_of}
-use Rattle.entry_reading.proofs.Visible.{are_visible}
+use Rattle.page_origin.proofs.Spellings.{are_visible}
 
 pub rule_back : (rule : Rule) → rule_of (rule_text rule) ≡ Some rule
 unfolding has_code rule_of
@@ -51,6 +51,7 @@ rule_back B4 = refl
 rule_back B5 = refl
 rule_back B6 = refl
 rule_back B7 = refl
+rule_back B8 = refl
 
 pub rule_visible : (rule : Rule) → are_visible (rule_text rule) ≡ true
 rule_visible K1 = refl
@@ -96,3 +97,4 @@ rule_visible B4 = refl
 rule_visible B5 = refl
 rule_visible B6 = refl
 rule_visible B7 = refl
+rule_visible B8 = refl

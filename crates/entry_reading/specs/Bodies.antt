@@ -1,6 +1,8 @@
--- Reading the bodies of messages and replies, field by field. A reader may take more than spellings.
+-- For the proof that reading inverts printing: how the bodies of messages and replies are read, field by field. A reader may take more than
+-- spellings.
 use Rattle.std.specs.Prelude.{ℕ, Bool, true, false, List, bytes_eq, codes, Option, Some, None, if◌then◌else◌}
 use Rattle.page_origin.specs.declared.origin.Origin.{Origin}
+use Rattle.history_entry.specs.Numbers.{decimal_number}
 use Rattle.history_entry.specs.declared.body.Body.{Body}
 use Rattle.history_entry.specs.declared.body.Body.TheVariants.{AddFrame, Ask, DidCommit, Fetch, Navigate, OpenPage, Post, RemoveFrame}
 use Rattle.history_entry.specs.declared.body.Message.{Message}
@@ -13,11 +15,11 @@ use Rattle.history_entry.specs.declared.body.Target.TheVariants.{Any, Of, Own}
 use Rattle.history_entry.specs.declared.reply.Reply.{Reply}
 use Rattle.history_entry.specs.declared.reply.Reply.TheVariants.{Answer, Deny, Drop, Kill, Ok as Okay}
 use Rattle.history_entry.specs.declared.rule.Rule.{Rule}
-use Rattle.entry_reading.specs.Fields.{before, behind, field_by, number_of, origin_of, rule_of, text_of, ◌>>=◌}
+use Rattle.entry_reading.specs.Fields.{before, behind, field_by, origin_of, rule_of, text_of, ◌>>=◌}
 
 -- a number, and what stands behind it. So with the other fields
 abbrev pub number : List ℕ → Option (ℕ × List ℕ)
-number text = field_by number_of text
+number text = field_by decimal_number text
 
 -- an origin
 abbrev pub origin : List ℕ → Option (Origin × List ℕ)

@@ -1,5 +1,5 @@
 -- What the types of entries, messages and replies keep: numbers of 32 bits, ports of 16, hosts and URLs of their form, texts of UTF-8, pieces of bytes.
-use Rattle.std.specs.Prelude.{◌≡◌, ℕ, ◌<◌, ◌^◌, true, length, IsUtf8, ⊤}
+use Rattle.std.specs.Prelude.{◌≡◌, ℕ, ◌<◌, ◌^◌, true, length, IfSome, IsUtf8, ⊤}
 use Rattle.hex.specs.Hex.{IsBytes}
 use Rattle.page_origin.specs.HostSpelling.{is_host}
 use Rattle.page_origin.specs.UrlText.{is_url_spelling}
@@ -26,13 +26,17 @@ use Rattle.history_entry.specs.declared.reply.Reply.TheVariants.{Answer, Deny, D
 abbrev pub IsNumber : ℕ → Type 0
 IsNumber n = n < 2 ^ 32
 
+-- a port of 16 bits
+abbrev pub IsPort : ℕ → Type 0
+IsPort port = port < 2 ^ 16
+
 -- a site: its host is spelled as a host
 abbrev pub IsSite : Site → Type 0
-IsSite site = is_host site.host ≡ true
+IsSite site = (is_host site.host ≡ true) × IfSome site.only IsPort
 
 -- an origin
 abbrev pub IsOrigin : Origin → Type 0
-IsOrigin (Tuple o) = (is_host o.host ≡ true) × (o.port < 2 ^ 16)
+IsOrigin (Tuple o) = (is_host o.host ≡ true) × IsPort o.port
 IsOrigin (Opaque o) = IsNumber o.document × IsSite o.precursor
 
 -- the source of a frame

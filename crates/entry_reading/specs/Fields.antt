@@ -1,7 +1,7 @@
--- Reading the fields of a line, from the left. A reader may take more than spellings: what is read is printed again and compared.
-use Rattle.std.specs.Prelude.{ℕ, ◌+◌, ◌-◌, ◌*◌, ◌^◌, Bool, ◌&&◌, ◌==◌, nat_lt, nat_eq, List, [], ◌∷◌, length, drop, take, codes, bytes_eq, slice_index, find, Option, Some, None, option_map, if◌then◌else◌}
+-- For the proof that reading inverts printing: how the fields of a line are read, from the left. Which lines there are is said by printing alone.
+-- A reader may take more than spellings: what is read is printed again and compared.
+use Rattle.std.specs.Prelude.{ℕ, ◌+◌, ◌^◌, Bool, not, ◌==◌, nat_lt, nat_eq, List, [], ◌∷◌, length, drop, take, codes, bytes_eq, slice_index, find, Option, Some, None, option_map, if◌then◌else◌}
 use Rattle.std.specs.Result.{result_ok}
-use Rattle.std.specs.Char.{is_ascii_digit}
 use Rattle.std.specs.List.{starts_with}
 use Rattle.std.specs.Str.{is_utf8}
 use Rattle.hex.specs.Hex.{decode_of}
@@ -14,15 +14,20 @@ use Rattle.page_origin.specs.declared.site.Site.{Site}
 use Rattle.page_origin.specs.declared.origin.TupleOrigin.{TupleOrigin}
 use Rattle.page_origin.specs.declared.origin.Origin.{Origin}
 use Rattle.page_origin.specs.declared.origin.Origin.TheVariants.{Opaque, Tuple}
+use Rattle.history_entry.specs.Numbers.{decimal_number}
 use Rattle.history_entry.specs.RuleText.{rule_text}
 use Rattle.history_entry.specs.declared.rule.Rule.{Rule}
-use Rattle.history_entry.specs.declared.rule.Rule.TheVariants.{K1, K2, K3, K4, K5, K6, K7, K8, K9, K10, G1, G2, G3, M1, M2, N1, N2, N3, N4, N5, N6, N7, N8, N9, F1, L1, L2, S1, S2, S3, S4, A1, A2, A3, A4, A5, B1, B2, B3, B4, B5, B6, B7}
+use Rattle.history_entry.specs.declared.rule.Rule.TheVariants.{K1, K2, K3, K4, K5, K6, K7, K8, K9, K10, G1, G2, G3, M1, M2, N1, N2, N3, N4, N5, N6, N7, N8, N9, F1, L1, L2, S1, S2, S3, S4, A1, A2, A3, A4, A5, B1, B2, B3, B4, B5, B6, B7, B8}
 
 -- the next step of reading, on what was read
 infixl 10 ◌>>=◌
 abbrev pub ◌>>=◌ : {A B : Type 0} → Option A → (A → Option B) → Option B
 (Some x) >>= f = f x
 None >>= f = None
+
+-- another byte than the mark
+abbrev pub is_other : ℕ → ℕ → Bool
+is_other mark b = not (b == mark)
 
 -- what stands before the first mark
 abbrev pub before : ℕ → List ℕ → List ℕ
@@ -41,16 +46,6 @@ field_by read text = read (before 32 text) >>= λ x. Some (x, behind 32 text)
 -- what was read, whatever is left
 abbrev pub taken : {A : Type 0} → Option (A × List ℕ) → Option A
 taken read = option_map (λ p. p.0) read
-
--- the number so far, and the digits to come
-abbrev pub number_from : ℕ → List ℕ → Option ℕ
-number_from n [] = Some n
-number_from n (b ∷ text) =
-    if is_ascii_digit b && nat_lt (n * 10 + (b - 48)) (2 ^ 32) then number_from (n * 10 + (b - 48)) text else None
-
--- a decimal number below 2^32
-unfoldable pub number_of : List ℕ → Option ℕ
-number_of text = if length text == 0 then None else number_from 0 text
 
 -- bytes in hexadecimal, and none of a dash
 unfoldable pub bytes_of : List ℕ → Option (List ℕ)
@@ -78,13 +73,6 @@ scheme_of text =
     if starts_with nat_eq text (codes "https://") then Some (Https, drop 8 text)
     else (if starts_with nat_eq text (codes "http://") then Some (Http, drop 7 text) else None)
 
--- a site: a scheme and a host
-unfoldable pub site_of : List ℕ → Option Site
-site_of text = do
-  scheme ← scheme_of text
-  host ← host_of scheme.1
-  Some (record { scheme = scheme.0; host = host })
-
 -- how long the host at the front is: it ends with a bracket where it begins with one, and before a colon else
 abbrev pub host_length : List ℕ → ℕ
 host_length text = if slice_index text 0 == 91 then length (before 93 text) + 1 else length (before 58 text)
@@ -92,7 +80,7 @@ host_length text = if slice_index text 0 == 91 then length (before 93 text) + 1 
 -- the port behind a colon, and the scheme's own where nothing is left
 abbrev pub port_of : Scheme → List ℕ → Option ℕ
 port_of scheme [] = Some (default_port_of scheme)
-port_of scheme (b ∷ text) = number_of text >>= λ n. if nat_lt n (2 ^ 16) then Some n else None
+port_of scheme (b ∷ text) = decimal_number text >>= λ n. if nat_lt n (2 ^ 16) then Some n else None
 
 -- a host and perhaps a port
 abbrev pub tuple_by : Scheme → List ℕ → Option TupleOrigin
@@ -105,10 +93,25 @@ tuple_by scheme text = do
 unfoldable pub tuple_of : List ℕ → Option TupleOrigin
 tuple_of text = scheme_of text >>= λ scheme. tuple_by scheme.0 scheme.1
 
+-- a site that many origins share: a scheme and a host
+abbrev pub shared_site_of : List ℕ → Option Site
+shared_site_of text = do
+  scheme ← scheme_of text
+  host ← host_of scheme.1
+  Some (record { scheme = scheme.0; host = host; only = None })
+
+-- the site of an isolated origin, behind its `=`
+abbrev pub isolated_site_of : List ℕ → Option Site
+isolated_site_of text = tuple_of text >>= λ o. Some (record { scheme = o.scheme; host = o.host; only = Some o.port })
+
+-- a site
+unfoldable pub site_of : List ℕ → Option Site
+site_of text = if starts_with nat_eq text (codes "=") then isolated_site_of (drop 1 text) else shared_site_of text
+
 -- an opaque origin behind `opaque:`: the number of its document and its precursor
 abbrev pub opaque_of : List ℕ → Option Origin
 opaque_of text = do
-  document ← number_of (before 58 text)
+  document ← decimal_number (before 58 text)
   precursor ← site_of (behind 58 text)
   Some (Opaque (record { document = document; precursor = precursor }))
 
@@ -120,7 +123,7 @@ origin_of text = if starts_with nat_eq text (codes "opaque:") then opaque_of (dr
 -- all rules
 abbrev pub rules : List Rule
 rules = K1 ∷ K2 ∷ K3 ∷ K4 ∷ K5 ∷ K6 ∷ K7 ∷ K8 ∷ K9 ∷ K10 ∷ G1 ∷ G2 ∷ G3 ∷ M1 ∷ M2 ∷ N1 ∷ N2 ∷ N3 ∷ N4 ∷ N5 ∷ N6 ∷ N7 ∷ N8 ∷ N9
-    ∷ F1 ∷ L1 ∷ L2 ∷ S1 ∷ S2 ∷ S3 ∷ S4 ∷ A1 ∷ A2 ∷ A3 ∷ A4 ∷ A5 ∷ B1 ∷ B2 ∷ B3 ∷ B4 ∷ B5 ∷ B6 ∷ B7 ∷ []
+    ∷ F1 ∷ L1 ∷ L2 ∷ S1 ∷ S2 ∷ S3 ∷ S4 ∷ A1 ∷ A2 ∷ A3 ∷ A4 ∷ A5 ∷ B1 ∷ B2 ∷ B3 ∷ B4 ∷ B5 ∷ B6 ∷ B7 ∷ B8 ∷ []
 
 -- whether a text is the code of a rule
 unfoldable pub has_code : List ℕ → Rule → Bool

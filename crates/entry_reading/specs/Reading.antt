@@ -1,4 +1,4 @@
--- Reading a line, field by field: the entry that is told by what it begins with. A reader may take more than spellings.
+-- For the proof that reading inverts printing: how a line is read, field by field, by what it begins with. A reader may take more than spellings.
 use Rattle.std.specs.Prelude.{ℕ, List, bytes_eq, codes, Option, Some, None, if◌then◌else◌}
 use Rattle.history_entry.specs.declared.entry.EndHow.{EndHow}
 use Rattle.history_entry.specs.declared.entry.EndHow.TheVariants.{Blocked, Failed, Whole}

@@ -14,6 +14,10 @@ Spells line e = IsEntry e × (entry_text e ≡ line)
 abbrev pub SpellsNone : List ℕ → Type 0
 SpellsNone line = (e : Entry) → IsEntry e → entry_text e ≢ line
 
+-- the bytes begin with the line of no entry, its line feed included
+abbrev pub BeginsWithNoLine : List ℕ → Type 0
+BeginsWithNoLine bytes = (e : Entry) (rest : List ℕ) → IsEntry e → line_of e ++ rest ≢ bytes
+
 -- the text spells the message
 abbrev pub SpellsMessage : List ℕ → Message → Type 0
 SpellsMessage text message = IsMessage message × (message_text message ≡ text)

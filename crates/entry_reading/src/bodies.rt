@@ -7,11 +7,11 @@ ghost use Rattle.entry_reading.specs.Bodies as bodies;
 
 use crate::fields::Fields;
 use crate::origins::origin_of;
-use crate::stop::ReadStop;
+use crate::stop::EntryStop;
 use history_entry::{Body, Message, Mode, RawUrl, RequestText, ServiceName, Src, Target};
 use std::alloc::Global;
 
-fn mode_of(text: &[u8]) -> Result<Mode, ReadStop>
+fn mode_of(text: &[u8]) -> Result<Mode, EntryStop>
     ensures { Gives result (bodies.mode_of text.now) }
 {
     if text == b"cors".as_slice() {
@@ -19,11 +19,11 @@ fn mode_of(text: &[u8]) -> Result<Mode, ReadStop>
     } else if text == b"no-cors".as_slice() {
         Ok(Mode::NoCors)
     } else {
-        Err(ReadStop::BadLine)
+        Err(EntryStop::BadLine)
     }
 }
 
-fn sandbox_of(text: &[u8]) -> Result<bool, ReadStop>
+fn sandbox_of(text: &[u8]) -> Result<bool, EntryStop>
     ensures { Gives result (bodies.sandbox_of text.now) }
 {
     if text == b"sandboxed".as_slice() {
@@ -31,11 +31,11 @@ fn sandbox_of(text: &[u8]) -> Result<bool, ReadStop>
     } else if text == b"plain".as_slice() {
         Ok(false)
     } else {
-        Err(ReadStop::BadLine)
+        Err(EntryStop::BadLine)
     }
 }
 
-fn target_of(alloc: Global, text: &[u8]) -> Result<Target, ReadStop>
+fn target_of(alloc: Global, text: &[u8]) -> Result<Target, EntryStop>
     ensures { Gives result (bodies.target_of text.now) }
 {
     if text == b"*".as_slice() {
@@ -48,26 +48,26 @@ fn target_of(alloc: Global, text: &[u8]) -> Result<Target, ReadStop>
 }
 
 impl<'a> Fields<'a> {
-    fn mode(&mut self) -> Result<Mode, ReadStop>
+    fn mode(&mut self) -> Result<Mode, EntryStop>
         ensures { Takes result self.new.rest.now (fields.field_by bodies.mode_of self.old.rest.now) }
     {
         mode_of(self.word())
     }
 
-    fn sandbox(&mut self) -> Result<bool, ReadStop>
+    fn sandbox(&mut self) -> Result<bool, EntryStop>
         ensures { Takes result self.new.rest.now (fields.field_by bodies.sandbox_of self.old.rest.now) }
     {
         sandbox_of(self.word())
     }
 
-    fn target(&mut self, alloc: Global) -> Result<Target, ReadStop>
+    fn target(&mut self, alloc: Global) -> Result<Target, EntryStop>
         ensures { Takes result self.new.rest.now (fields.field_by bodies.target_of self.old.rest.now) }
     {
         target_of(alloc, self.word())
     }
 
     #[tactic(auto, unfolding(crate::specs::Bodies::src))]
-    fn src(&mut self, alloc: Global) -> Result<Src, ReadStop>
+    fn src(&mut self, alloc: Global) -> Result<Src, EntryStop>
         ensures { Takes result self.new.rest.now (bodies.src self.old.rest.now) }
     {
         let word = self.word();
@@ -76,12 +76,12 @@ impl<'a> Fields<'a> {
         } else if word == b"doc".as_slice() {
             Ok(Src::Doc(self.number()?))
         } else {
-            Err(ReadStop::BadLine)
+            Err(EntryStop::BadLine)
         }
     }
 
     #[tactic(auto, unfolding(crate::specs::Bodies::navigate))]
-    fn navigate(&mut self, alloc: Global) -> Result<Body, ReadStop>
+    fn navigate(&mut self, alloc: Global) -> Result<Body, EntryStop>
         ensures { Takes result self.new.rest.now (bodies.navigate self.old.rest.now) }
     {
         let frame = self.number()?;
@@ -95,7 +95,7 @@ impl<'a> Fields<'a> {
     }
 
     #[tactic(auto, unfolding(crate::specs::Bodies::add_frame))]
-    fn add_frame(&mut self, alloc: Global) -> Result<Body, ReadStop>
+    fn add_frame(&mut self, alloc: Global) -> Result<Body, EntryStop>
         ensures { Takes result self.new.rest.now (bodies.add_frame self.old.rest.now) }
     {
         let sandbox = self.sandbox()?;
@@ -104,7 +104,7 @@ impl<'a> Fields<'a> {
     }
 
     #[tactic(auto, unfolding(crate::specs::Bodies::remove_frame))]
-    fn remove_frame(&mut self) -> Result<Body, ReadStop>
+    fn remove_frame(&mut self) -> Result<Body, EntryStop>
         ensures { Takes result self.new.rest.now (bodies.remove_frame self.old.rest.now) }
     {
         let frame = self.number()?;
@@ -112,7 +112,7 @@ impl<'a> Fields<'a> {
     }
 
     #[tactic(auto, unfolding(crate::specs::Bodies::open_page))]
-    fn open_page(&mut self, alloc: Global) -> Result<Body, ReadStop>
+    fn open_page(&mut self, alloc: Global) -> Result<Body, EntryStop>
         ensures { Takes result self.new.rest.now (bodies.open_page self.old.rest.now) }
     {
         let url = RawUrl::new(self.text(alloc)?);
@@ -120,7 +120,7 @@ impl<'a> Fields<'a> {
     }
 
     #[tactic(auto, unfolding(crate::specs::Bodies::fetch))]
-    fn fetch(&mut self, alloc: Global) -> Result<Body, ReadStop>
+    fn fetch(&mut self, alloc: Global) -> Result<Body, EntryStop>
         ensures { Takes result self.new.rest.now (bodies.fetch self.old.rest.now) }
     {
         let mode = self.mode()?;
@@ -134,7 +134,7 @@ impl<'a> Fields<'a> {
     }
 
     #[tactic(auto, unfolding(crate::specs::Bodies::post))]
-    fn post(&mut self, alloc: Global) -> Result<Body, ReadStop>
+    fn post(&mut self, alloc: Global) -> Result<Body, EntryStop>
         ensures { Takes result self.new.rest.now (bodies.post self.old.rest.now) }
     {
         let frame = self.number()?;
@@ -150,7 +150,7 @@ impl<'a> Fields<'a> {
     }
 
     #[tactic(auto, unfolding(crate::specs::Bodies::ask))]
-    fn ask(&mut self, alloc: Global) -> Result<Body, ReadStop>
+    fn ask(&mut self, alloc: Global) -> Result<Body, EntryStop>
         ensures { Takes result self.new.rest.now (bodies.ask self.old.rest.now) }
     {
         let service = ServiceName::new(self.text(alloc)?);
@@ -164,7 +164,7 @@ impl<'a> Fields<'a> {
     }
 
     #[tactic(auto, unfolding(crate::specs::Bodies::did_commit))]
-    fn did_commit(&mut self, alloc: Global) -> Result<Body, ReadStop>
+    fn did_commit(&mut self, alloc: Global) -> Result<Body, EntryStop>
         ensures { Takes result self.new.rest.now (bodies.did_commit self.old.rest.now) }
     {
         let nav = self.number()?;
@@ -174,7 +174,7 @@ impl<'a> Fields<'a> {
     }
 
     #[tactic(auto, unfolding(crate::specs::Bodies::body_by))]
-    fn body(&mut self, alloc: Global) -> Result<Body, ReadStop>
+    fn body(&mut self, alloc: Global) -> Result<Body, EntryStop>
         ensures { Takes result self.new.rest.now (bodies.body_by (fields.before 32 self.old.rest.now) (fields.behind 32 self.old.rest.now)) }
     {
         let word = self.word();
@@ -195,13 +195,13 @@ impl<'a> Fields<'a> {
         } else if word == b"commit".as_slice() {
             self.did_commit(alloc)
         } else {
-            Err(ReadStop::BadLine)
+            Err(EntryStop::BadLine)
         }
     }
 
     /// The message that the next fields are.
     #[tactic(auto, unfolding(crate::specs::Bodies::message))]
-    pub fn message(&mut self, alloc: Global) -> Result<Message, ReadStop>
+    pub fn message(&mut self, alloc: Global) -> Result<Message, EntryStop>
         ensures { Takes result self.new.rest.now (bodies.message self.old.rest.now) }
     {
         let document = self.number()?;

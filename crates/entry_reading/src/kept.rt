@@ -1,6 +1,6 @@
 //! What the types of entries, messages and replies keep.
 
-ghost use Rattle.std.specs.Prelude.{◌<◌, ◌^◌, length};
+ghost use Rattle.std.specs.Prelude.{◌<◌, length};
 ghost use Rattle.hex.specs.Hex.{IsBytes};
 ghost use Rattle.entry_reading.specs.Entries as entries;
 
@@ -12,13 +12,17 @@ fn number_is_kept(_number: u32)
 {}
 
 fn port_is_kept(_port: u16)
-    ensures { _port < 2 ^ 16 }
+    ensures { entries.IsPort _port }
 {}
 
 fn site_is_kept(site: &Site)
     ensures { entries.IsSite site.now }
 {
     let _host = site.host.as_str();
+    match site.only {
+        Some(port) => port_is_kept(port),
+        None => {}
+    }
 }
 
 fn origin_is_kept(origin: &Origin)

@@ -5,15 +5,14 @@ ghost use Rattle.entry_reading.specs.Answers.{Gives, Takes};
 ghost use Rattle.entry_reading.specs.Fields as fields;
 ghost use Rattle.entry_reading.specs.Reading as reading;
 
-use crate::fields::Fields;
-use crate::stop::ReadStop;
-use crate::texts::url_of;
+use crate::fields::{Fields, url_of};
+use crate::stop::EntryStop;
 use history_entry::{EndHow, Entry, HopOf, LocalWhat, RawUrl, RequestText};
 use std::alloc::Global;
 
 impl<'a> Fields<'a> {
     #[tactic(auto, unfolding(crate::specs::Reading::hop_of))]
-    fn hop_of(&mut self) -> Result<HopOf, ReadStop>
+    fn hop_of(&mut self) -> Result<HopOf, EntryStop>
         ensures { Takes result self.new.rest.now (reading.hop_of self.old.rest.now) }
     {
         let word = self.word();
@@ -22,12 +21,12 @@ impl<'a> Fields<'a> {
         } else if word == b"req".as_slice() {
             Ok(HopOf::Req(self.number()?))
         } else {
-            Err(ReadStop::BadLine)
+            Err(EntryStop::BadLine)
         }
     }
 
     #[tactic(auto, unfolding(crate::specs::Reading::what))]
-    fn what(&mut self, alloc: Global) -> Result<LocalWhat, ReadStop>
+    fn what(&mut self, alloc: Global) -> Result<LocalWhat, EntryStop>
         ensures { Gives result (reading.what self.old.rest.now) }
     {
         let word = self.word();
@@ -40,12 +39,12 @@ impl<'a> Fields<'a> {
             let text = RequestText::new(self.text(alloc)?);
             Ok(LocalWhat::Took { source, text })
         } else {
-            Err(ReadStop::BadLine)
+            Err(EntryStop::BadLine)
         }
     }
 
     #[tactic(auto, unfolding(crate::specs::Reading::how))]
-    fn how(&mut self) -> Result<EndHow, ReadStop>
+    fn how(&mut self) -> Result<EndHow, EntryStop>
         ensures { Gives result (reading.how self.old.rest.now) }
     {
         let word = self.word();
@@ -56,12 +55,12 @@ impl<'a> Fields<'a> {
         } else if word == b"failed".as_slice() {
             Ok(EndHow::Failed(self.rule()?))
         } else {
-            Err(ReadStop::BadLine)
+            Err(EntryStop::BadLine)
         }
     }
 
     #[tactic(auto, unfolding(crate::specs::Reading::hop))]
-    fn hop(&mut self, alloc: Global) -> Result<Entry, ReadStop>
+    fn hop(&mut self, alloc: Global) -> Result<Entry, EntryStop>
         ensures { Gives result (reading.hop self.old.rest.now) }
     {
         let of = self.hop_of()?;
@@ -70,7 +69,7 @@ impl<'a> Fields<'a> {
     }
 
     #[tactic(auto, unfolding(crate::specs::Reading::order))]
-    fn order(&mut self, alloc: Global) -> Result<Entry, ReadStop>
+    fn order(&mut self, alloc: Global) -> Result<Entry, EntryStop>
         ensures { Gives result (reading.order self.old.rest.now) }
     {
         let navigation = self.number()?;
@@ -82,7 +81,7 @@ impl<'a> Fields<'a> {
     }
 
     #[tactic(auto, unfolding(crate::specs::Reading::nav_end))]
-    fn nav_end(&mut self) -> Result<Entry, ReadStop>
+    fn nav_end(&mut self) -> Result<Entry, EntryStop>
         ensures { Gives result (reading.nav_end self.old.rest.now) }
     {
         let navigation = self.number()?;
@@ -91,7 +90,7 @@ impl<'a> Fields<'a> {
     }
 
     #[tactic(auto, unfolding(crate::specs::Reading::said))]
-    fn said(&mut self, alloc: Global) -> Result<Entry, ReadStop>
+    fn said(&mut self, alloc: Global) -> Result<Entry, EntryStop>
         ensures { Gives result (reading.said self.old.rest.now) }
     {
         let process = self.number()?;
@@ -104,7 +103,7 @@ impl<'a> Fields<'a> {
     }
 
     #[tactic(auto, unfolding(crate::specs::Reading::commit))]
-    fn commit(&mut self, alloc: Global) -> Result<Entry, ReadStop>
+    fn commit(&mut self, alloc: Global) -> Result<Entry, EntryStop>
         ensures { Gives result (reading.commit self.old.rest.now) }
     {
         let process = self.number()?;
@@ -117,7 +116,7 @@ impl<'a> Fields<'a> {
     }
 
     #[tactic(auto, unfolding(crate::specs::Reading::local))]
-    fn local(&mut self, alloc: Global) -> Result<Entry, ReadStop>
+    fn local(&mut self, alloc: Global) -> Result<Entry, EntryStop>
         ensures { Gives result (reading.local self.old.rest.now) }
     {
         let process = self.number()?;
@@ -128,7 +127,7 @@ impl<'a> Fields<'a> {
     }
 
     #[tactic(auto, unfolding(crate::specs::Reading::head))]
-    fn head(&mut self) -> Result<Entry, ReadStop>
+    fn head(&mut self) -> Result<Entry, EntryStop>
         ensures { Gives result (reading.head self.old.rest.now) }
     {
         let request = self.number()?;
@@ -137,7 +136,7 @@ impl<'a> Fields<'a> {
     }
 
     #[tactic(auto, unfolding(crate::specs::Reading::piece))]
-    fn piece_entry(&mut self, alloc: Global) -> Result<Entry, ReadStop>
+    fn piece_entry(&mut self, alloc: Global) -> Result<Entry, EntryStop>
         ensures { Gives result (reading.piece self.old.rest.now) }
     {
         let request = self.number()?;
@@ -147,7 +146,7 @@ impl<'a> Fields<'a> {
     }
 
     #[tactic(auto, unfolding(crate::specs::Reading::end))]
-    fn end(&mut self) -> Result<Entry, ReadStop>
+    fn end(&mut self) -> Result<Entry, EntryStop>
         ensures { Gives result (reading.end self.old.rest.now) }
     {
         let request = self.number()?;
@@ -157,7 +156,7 @@ impl<'a> Fields<'a> {
 
     /// The entry that the fields are.
     #[tactic(auto, unfolding(crate::specs::Reading::entry_of, crate::specs::Reading::entry_by))]
-    pub fn entry(&mut self, alloc: Global) -> Result<Entry, ReadStop>
+    pub fn entry(&mut self, alloc: Global) -> Result<Entry, EntryStop>
         ensures { Gives result (reading.entry_of self.old.rest.now) }
     {
         let word = self.word();
@@ -188,7 +187,7 @@ impl<'a> Fields<'a> {
         } else if word == b"exit".as_slice() {
             Ok(Entry::Exit(self.number()?))
         } else {
-            Err(ReadStop::BadLine)
+            Err(EntryStop::BadLine)
         }
     }
 }

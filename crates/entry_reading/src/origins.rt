@@ -4,13 +4,12 @@ ghost use Rattle.std.specs.Prelude.{◌≡◌, min, length, option_map};
 ghost use Rattle.entry_reading.specs.Answers.{Gives, GivesBy, Takes};
 ghost use Rattle.entry_reading.specs.Fields as fields;
 
-use crate::fields::{Fields, cut, number_of};
-use crate::stop::ReadStop;
-use crate::texts::host_of;
+use crate::fields::{Fields, around, host_of, number_of};
+use crate::stop::EntryStop;
 use page_origin::{OpaqueOrigin, Origin, Scheme, Site, TupleOrigin};
 use std::alloc::Global;
 
-fn scheme_of(text: &[u8]) -> Result<(Scheme, &[u8]), ReadStop>
+fn scheme_of(text: &[u8]) -> Result<(Scheme, &[u8]), EntryStop>
     ensures { GivesBy (λ p. (p.0, p.1.now)) result (fields.scheme_of text.now) }
 {
     if text.starts_with(b"https://") {
@@ -18,17 +17,8 @@ fn scheme_of(text: &[u8]) -> Result<(Scheme, &[u8]), ReadStop>
     } else if text.starts_with(b"http://") {
         Ok((Scheme::Http, &text[7..]))
     } else {
-        Err(ReadStop::BadLine)
+        Err(EntryStop::BadLine)
     }
-}
-
-#[tactic(auto, unfolding(crate::specs::Fields::site_of))]
-fn site_of(alloc: Global, text: &[u8]) -> Result<Site, ReadStop>
-    ensures { Gives result (fields.site_of text.now) }
-{
-    let (scheme, text) = scheme_of(text)?;
-    let host = host_of(alloc, text)?;
-    Ok(Site { scheme, host })
 }
 
 fn host_length(text: &[u8]) -> usize
@@ -36,17 +26,17 @@ fn host_length(text: &[u8]) -> usize
 {
     match text {
         [b'[', ..] => {
-            let (address, _) = cut(text, b']');
+            let (address, _) = around(text, b']');
             text.len().min(address.len() + 1)
         }
         _ => {
-            let (name, _) = cut(text, b':');
+            let (name, _) = around(text, b':');
             text.len().min(name.len())
         }
     }
 }
 
-fn port_of(scheme: Scheme, text: &[u8]) -> Result<u16, ReadStop>
+fn port_of(scheme: Scheme, text: &[u8]) -> Result<u16, EntryStop>
     ensures { Gives result (fields.port_of scheme text.now) }
 {
     match text {
@@ -54,14 +44,14 @@ fn port_of(scheme: Scheme, text: &[u8]) -> Result<u16, ReadStop>
         [_, digits @ ..] => {
             let port = number_of(digits)?;
             if port > u16::MAX as u32 {
-                return Err(ReadStop::BadLine);
+                return Err(EntryStop::BadLine);
             }
             Ok(port as u16)
         }
     }
 }
 
-fn tuple_by(alloc: Global, scheme: Scheme, text: &[u8]) -> Result<TupleOrigin, ReadStop>
+fn tuple_by(alloc: Global, scheme: Scheme, text: &[u8]) -> Result<TupleOrigin, EntryStop>
     ensures { Gives result (fields.tuple_by scheme text.now) }
 {
     let (host, port) = text.split_at(host_length(text));
@@ -71,17 +61,51 @@ fn tuple_by(alloc: Global, scheme: Scheme, text: &[u8]) -> Result<TupleOrigin, R
 }
 
 #[tactic(auto, unfolding(crate::specs::Fields::tuple_of))]
-fn tuple_of(alloc: Global, text: &[u8]) -> Result<TupleOrigin, ReadStop>
+fn tuple_of(alloc: Global, text: &[u8]) -> Result<TupleOrigin, EntryStop>
     ensures { Gives result (fields.tuple_of text.now) }
 {
     let (scheme, text) = scheme_of(text)?;
     tuple_by(alloc, scheme, text)
 }
 
-fn opaque_of(alloc: Global, text: &[u8]) -> Result<Origin, ReadStop>
+fn shared_site_of(alloc: Global, text: &[u8]) -> Result<Site, EntryStop>
+    ensures { Gives result (fields.shared_site_of text.now) }
+{
+    let (scheme, text) = scheme_of(text)?;
+    let host = host_of(alloc, text)?;
+    Ok(Site {
+        scheme,
+        host,
+        only: None,
+    })
+}
+
+fn isolated_site_of(alloc: Global, text: &[u8]) -> Result<Site, EntryStop>
+    ensures { Gives result (fields.isolated_site_of text.now) }
+{
+    let TupleOrigin { scheme, host, port } = tuple_of(alloc, text)?;
+    Ok(Site {
+        scheme,
+        host,
+        only: Some(port),
+    })
+}
+
+#[tactic(auto, unfolding(crate::specs::Fields::site_of))]
+fn site_of(alloc: Global, text: &[u8]) -> Result<Site, EntryStop>
+    ensures { Gives result (fields.site_of text.now) }
+{
+    if text.starts_with(b"=") {
+        isolated_site_of(alloc, &text[1..])
+    } else {
+        shared_site_of(alloc, text)
+    }
+}
+
+fn opaque_of(alloc: Global, text: &[u8]) -> Result<Origin, EntryStop>
     ensures { Gives result (fields.opaque_of text.now) }
 {
-    let (document, precursor) = cut(text, b':');
+    let (document, precursor) = around(text, b':');
     let document = number_of(document)?;
     let precursor = site_of(alloc, precursor)?;
     Ok(Origin::Opaque(OpaqueOrigin {
@@ -91,7 +115,7 @@ fn opaque_of(alloc: Global, text: &[u8]) -> Result<Origin, ReadStop>
 }
 
 #[tactic(auto, unfolding(crate::specs::Fields::origin_of))]
-pub fn origin_of(alloc: Global, text: &[u8]) -> Result<Origin, ReadStop>
+pub fn origin_of(alloc: Global, text: &[u8]) -> Result<Origin, EntryStop>
     ensures { Gives result (fields.origin_of text.now) }
 {
     if text.starts_with(b"opaque:") {
@@ -103,14 +127,14 @@ pub fn origin_of(alloc: Global, text: &[u8]) -> Result<Origin, ReadStop>
 
 impl<'a> Fields<'a> {
     /// The site that the next field is.
-    pub fn site(&mut self, alloc: Global) -> Result<Site, ReadStop>
+    pub fn site(&mut self, alloc: Global) -> Result<Site, EntryStop>
         ensures { Takes result self.new.rest.now (fields.field_by fields.site_of self.old.rest.now) }
     {
         site_of(alloc, self.word())
     }
 
     /// The origin that the next field is.
-    pub fn origin(&mut self, alloc: Global) -> Result<Origin, ReadStop>
+    pub fn origin(&mut self, alloc: Global) -> Result<Origin, EntryStop>
         ensures { Takes result self.new.rest.now (fields.field_by fields.origin_of self.old.rest.now) }
     {
         origin_of(alloc, self.word())

@@ -1,19 +1,20 @@
 //! Reading a line, a message and a reply. What was read is printed again and compared with the text, so that only
 //! spellings pass.
 
-ghost use Rattle.std.specs.Prelude.{◌≡◌, ◌⊎◌, ◌↔◌, Err, IfOk, IsTrue, Ok, Some};
+ghost use Rattle.std.specs.Prelude.{◌≡◌, ◌⊎◌, ◌↔◌, ◌++◌, Err, IfOk, IsTrue, Ok, Some};
 ghost use Rattle.history_entry.specs.declared.body.Message.{Message as MessageData};
 ghost use Rattle.history_entry.specs.declared.entry.Entry.{Entry as EntryData};
 ghost use Rattle.history_entry.specs.declared.reply.Reply.{Reply as ReplyData};
 ghost use Rattle.entry_text.specs.Lines as lines;
+ghost use Rattle.entry_reading.specs.Entries.{IsEntry};
 ghost use Rattle.entry_reading.specs.Bodies as bodies;
 ghost use Rattle.entry_reading.specs.Reading as reading;
-ghost use Rattle.entry_reading.specs.Spellings.{Spells, SpellsMessage, SpellsNoMessage, SpellsNoReply, SpellsNone, SpellsReply};
+ghost use Rattle.entry_reading.specs.Spellings.{BeginsWithNoLine, Spells, SpellsMessage, SpellsNoMessage, SpellsNoReply, SpellsNone, SpellsReply};
 ghost use Rattle.entry_reading.specs.Fields.{taken};
 
-use crate::fields::Fields;
+use crate::fields::{Fields, cut};
 use crate::kept::{entry_is_kept, message_is_kept, reply_is_kept};
-use crate::stop::{MessageStop, ReadStop, ReplyStop};
+use crate::stop::{EntryStop, MessageStop, ReplyStop};
 use entry_text::{message_text, put_entry, reply_text};
 use history_entry::{Entry, Message, Reply};
 use page_origin::NoMemory;
@@ -41,31 +42,40 @@ fn is_reply_spelled(alloc: Global, text: &[u8], reply: &Reply) -> Result<bool, N
     Ok(spelling.as_slice() == text)
 }
 
-fn confirmed(alloc: Global, line: &[u8], entry: Entry) -> Result<Entry, ReadStop>
+fn confirmed(alloc: Global, line: &[u8], entry: Entry) -> Result<Entry, EntryStop>
     requires { reading.entry_of line.now ≡ Some entry }
     ensures read { IfOk result (Spells line.now) }
-    ensures bad { result ≡ Err ReadStop.BadLine → SpellsNone line.now }
+    ensures bad { result ≡ Err EntryStop.BadLine → SpellsNone line.now }
 {
     entry_is_kept(&entry);
     if is_spelled(alloc, line, &entry)? {
         Ok(entry)
     } else {
-        Err(ReadStop::BadLine)
+        Err(EntryStop::BadLine)
     }
 }
 
 /// Reads the entry that a line spells, the line being without its line feed.
-pub fn read_entry(alloc: Global, line: &[u8]) -> Result<Entry, ReadStop>
+pub fn read_entry(alloc: Global, line: &[u8]) -> Result<Entry, EntryStop>
     ensures read { IfOk result (Spells line.now) }
-    ensures bad { result ≡ Err ReadStop.BadLine → SpellsNone line.now }
-    ensures back { (e : EntryData) → Spells line.now e → (result ≡ Ok e) ⊎ (result ≡ Err ReadStop.NoMemory) }
+    ensures bad { result ≡ Err EntryStop.BadLine → SpellsNone line.now }
+    ensures back { (e : EntryData) → Spells line.now e → (result ≡ Ok e) ⊎ (result ≡ Err EntryStop.NoMemory) }
 {
     let mut fields = Fields { rest: line };
-    match fields.entry(alloc) {
-        Ok(entry) => confirmed(alloc, line, entry),
-        Err(ReadStop::BadLine) => Err(ReadStop::BadLine),
-        Err(ReadStop::NoMemory) => Err(ReadStop::NoMemory),
-    }
+    let entry = fields.entry(alloc)?;
+    confirmed(alloc, line, entry)
+}
+
+/// Reads the entry whose line stands at the front of a text, its line feed included, and gives what is left behind it.
+pub fn read_line(alloc: Global, text: &[u8]) -> Result<(Entry, &[u8]), EntryStop>
+    ensures found { IfOk result (λ p. IsEntry p.0 × (lines.line_of p.0 ++ p.1.now ≡ text.now)) }
+    ensures bad { result ≡ Err EntryStop.BadLine → BeginsWithNoLine text.now }
+{
+    let Some((line, rest)) = cut(text, b'\n') else {
+        return Err(EntryStop::BadLine);
+    };
+    let entry = read_entry(alloc, line)?;
+    Ok((entry, rest))
 }
 
 fn confirmed_message(alloc: Global, text: &[u8], message: Message) -> Result<Message, MessageStop>
@@ -90,8 +100,8 @@ pub fn read_message(alloc: Global, text: &[u8]) -> Result<Message, MessageStop>
     let mut fields = Fields { rest: text };
     match fields.message(alloc) {
         Ok(message) => confirmed_message(alloc, text, message),
-        Err(ReadStop::BadLine) => Err(MessageStop::BadMessage),
-        Err(ReadStop::NoMemory) => Err(MessageStop::NoMemory),
+        Err(EntryStop::BadLine) => Err(MessageStop::BadMessage),
+        Err(EntryStop::NoMemory) => Err(MessageStop::NoMemory),
     }
 }
 
@@ -117,7 +127,7 @@ pub fn read_reply(alloc: Global, text: &[u8]) -> Result<Reply, ReplyStop>
     let mut fields = Fields { rest: text };
     match fields.reply(alloc) {
         Ok(reply) => confirmed_reply(alloc, text, reply),
-        Err(ReadStop::BadLine) => Err(ReplyStop::BadReply),
-        Err(ReadStop::NoMemory) => Err(ReplyStop::NoMemory),
+        Err(EntryStop::BadLine) => Err(ReplyStop::BadReply),
+        Err(EntryStop::NoMemory) => Err(ReplyStop::NoMemory),
     }
 }

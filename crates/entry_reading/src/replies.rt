@@ -4,14 +4,14 @@ ghost use Rattle.entry_reading.specs.Answers.{Takes};
 ghost use Rattle.entry_reading.specs.Bodies as bodies;
 
 use crate::fields::Fields;
-use crate::stop::ReadStop;
+use crate::stop::EntryStop;
 use history_entry::{Reply, RequestText};
 use std::alloc::Global;
 
 impl<'a> Fields<'a> {
     /// The reply that the next fields are.
     #[tactic(auto, unfolding(crate::specs::Bodies::reply))]
-    pub fn reply(&mut self, alloc: Global) -> Result<Reply, ReadStop>
+    pub fn reply(&mut self, alloc: Global) -> Result<Reply, EntryStop>
         ensures { Takes result self.new.rest.now (bodies.reply self.old.rest.now) }
     {
         let word = self.word();
@@ -26,7 +26,7 @@ impl<'a> Fields<'a> {
         } else if word == b"kill".as_slice() {
             Ok(Reply::Kill(self.rule()?))
         } else {
-            Err(ReadStop::BadLine)
+            Err(EntryStop::BadLine)
         }
     }
 }

@@ -5,10 +5,10 @@ ghost use Rattle.entry_reading.specs.Answers.{Takes};
 ghost use Rattle.entry_reading.specs.Fields as fields;
 
 use crate::fields::Fields;
-use crate::stop::ReadStop;
+use crate::stop::EntryStop;
 use history_entry::Rule;
 
-const RULES: [Rule; 43] = [
+const RULES: [Rule; 44] = [
     Rule::K1,
     Rule::K2,
     Rule::K3,
@@ -52,6 +52,7 @@ const RULES: [Rule; 43] = [
     Rule::B5,
     Rule::B6,
     Rule::B7,
+    Rule::B8,
 ];
 
 #[tactic(auto, unfolding(crate::specs::Fields::has_code))]
@@ -81,12 +82,9 @@ fn rule_of(text: &[u8]) -> Option<Rule>
 
 impl<'a> Fields<'a> {
     /// The rule whose code the next field is.
-    pub fn rule(&mut self) -> Result<Rule, ReadStop>
+    pub fn rule(&mut self) -> Result<Rule, EntryStop>
         ensures { Takes result self.new.rest.now (fields.field_by fields.rule_of self.old.rest.now) }
     {
-        match rule_of(self.word()) {
-            Some(rule) => Ok(rule),
-            None => Err(ReadStop::BadLine),
-        }
+        rule_of(self.word()).ok_or(EntryStop::BadLine)
     }
 }

@@ -1,50 +1,56 @@
 //! Why a text is read as nothing.
 
-use page_origin::NoMemory;
-use std::alloc::{AllocError, AllocFailed};
+use hex::FromHexError;
+use page_origin::{NoMemory, TextRefusal};
 use thiserror::Error;
 
 /// Why a line is read as no entry.
 #[derive(Clone, Copy, Debug, PartialEq, Eq, Error)]
-pub enum ReadStop {
+pub enum EntryStop {
     /// The line is no spelling.
     #[error("the line is no spelling of an entry")]
     BadLine,
     /// Memory ran out.
-    #[error("no memory")]
+    #[error("{}", NoMemory)]
     NoMemory,
 }
 
-impl From<NoMemory> for ReadStop {
+impl From<NoMemory> for EntryStop {
     ghost use Rattle.std.specs.Prelude.{◌≡◌};
-    ghost use Rattle.entry_reading.specs.declared.stop.ReadStop.TheVariants.{NoMemory as OutOfMemory};
+    ghost use Rattle.entry_reading.specs.declared.stop.EntryStop.TheVariants.{NoMemory as OutOfMemory};
 
     ghost from_gives = { λ _ stop. stop ≡ OutOfMemory };
 
-    fn from(_: NoMemory) -> ReadStop {
-        ReadStop::NoMemory
+    fn from(_: NoMemory) -> EntryStop {
+        EntryStop::NoMemory
     }
 }
 
-impl From<AllocError> for ReadStop {
+impl From<TextRefusal> for EntryStop {
     ghost use Rattle.std.specs.Prelude.{◌≡◌};
-    ghost use Rattle.entry_reading.specs.declared.stop.ReadStop.TheVariants.{NoMemory as OutOfMemory};
+    ghost use Rattle.entry_reading.specs.Answers.{stop_of_refusal};
 
-    ghost from_gives = { λ _ stop. stop ≡ OutOfMemory };
+    ghost from_gives = { λ refusal stop. stop ≡ stop_of_refusal refusal };
 
-    fn from(_: AllocError) -> ReadStop {
-        ReadStop::NoMemory
+    fn from(refusal: TextRefusal) -> EntryStop {
+        match refusal {
+            TextRefusal::BadText => EntryStop::BadLine,
+            TextRefusal::NoMemory => EntryStop::NoMemory,
+        }
     }
 }
 
-impl<T: Drop> From<AllocFailed<T>> for ReadStop {
+impl From<FromHexError> for EntryStop {
     ghost use Rattle.std.specs.Prelude.{◌≡◌};
-    ghost use Rattle.entry_reading.specs.declared.stop.ReadStop.TheVariants.{NoMemory as OutOfMemory};
+    ghost use Rattle.entry_reading.specs.Answers.{stop_of_hex};
 
-    ghost from_gives = { λ _ stop. stop ≡ OutOfMemory };
+    ghost from_gives = { λ error stop. stop ≡ stop_of_hex error };
 
-    fn from(_: AllocFailed<T>) -> ReadStop {
-        ReadStop::NoMemory
+    fn from(error: FromHexError) -> EntryStop {
+        match error {
+            FromHexError::OutOfMemory => EntryStop::NoMemory,
+            _ => EntryStop::BadLine,
+        }
     }
 }
 
@@ -55,7 +61,7 @@ pub enum MessageStop {
     #[error("the text is no spelling of a message")]
     BadMessage,
     /// Memory ran out.
-    #[error("no memory")]
+    #[error("{}", NoMemory)]
     NoMemory,
 }
 
@@ -77,7 +83,7 @@ pub enum ReplyStop {
     #[error("the text is no spelling of a reply")]
     BadReply,
     /// Memory ran out.
-    #[error("no memory")]
+    #[error("{}", NoMemory)]
     NoMemory,
 }
 

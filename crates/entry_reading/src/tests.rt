@@ -1,4 +1,4 @@
-use crate::{MessageStop, ReadStop, ReplyStop, read_entry, read_message, read_reply};
+use crate::{EntryStop, MessageStop, ReplyStop, read_entry, read_message, read_reply};
 use entry_text::{message_text, put_entry, reply_text};
 use history_entry::EntryKind;
 use std::test::Fail;
@@ -174,7 +174,7 @@ fn other_lines_are_bad(rt: HostRuntime) {
     for lines in [BAD_NUMBERS, BAD_FIELDS, BAD_ORIGINS, BAD_REPLIES] {
         for line in lines {
             let read = read_entry(rt.alloc(), line.as_bytes());
-            assert!(rt; matches!(read, Err(ReadStop::BadLine)));
+            assert!(rt; matches!(read, Err(EntryStop::BadLine)));
         }
     }
 }

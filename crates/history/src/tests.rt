@@ -78,7 +78,7 @@ commit 1 1 https://a.com 68747470733a2f2f612e636f6d2f => ok
 #[test]
 fn a_text_of_the_second_policy_has_its_version_line(rt: HostRuntime) -> Result<(), Fail> {
     let empty = run_text(rt.alloc(), Policy::Two, &[])?;
-    assert_eq!(rt; empty.as_slice(), b"history 2\n");
+    assert_eq!(rt; empty.as_slice(), b"history 2\n".as_slice());
     let page = run_text(rt.alloc(), Policy::Two, &["https://a.com/"])?;
     assert!(rt; page.starts_with(b"history 2\nopen 0\norder 0 0 "));
     Ok(())

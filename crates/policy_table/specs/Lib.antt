@@ -4,4 +4,3 @@ pub mod Known
 pub mod TableRule
 pub mod Views
 pub mod Steps
-pub mod Toys

@@ -22,6 +22,9 @@ pub trait Booked {
     // What a call does: the history before it, the call, its reply and the history after it.
     ghost does: { List Self.Entry → Self.Call → Self.Reply → List Self.Entry → Type 0 };
 
+    // What it means that a call found no memory at this history.
+    ghost short: { List Self.Entry → Self.Call → Type 0 };
+
     // A call's condition on the history that it is made at.
     ghost may: { List Self.Entry → Self.Call → Type 0 };
 
@@ -31,13 +34,14 @@ pub trait Booked {
     // The process whose standing the last call changed, with its standing since then.
     ghost changed: { Self → Option (ℕ × Standing) };
 
-    /// Makes a call. At `NoMemory` the history is unchanged.
+    /// Makes a call. At `NoMemory` the history is unchanged, and is one at which the call finds no memory.
     fn act(&mut self, call: Self::Call) -> Result<Self::Reply, NoMemory>
         requires { may (history self.old) call }
         ensures done { IfOk result (λ reply. does (history self.old) call reply (history self.new)) }
         ensures adds { IfOk result (λ reply. (history self.new ≡ history self.old)
             ⊎ AddsOne (history self.old) (history self.new)) }
         ensures none { IfErr result (λ error. history self.new ≡ history self.old) }
+        ensures short { IfErr result (λ error. short (history self.old) call) }
         ensures changes { Changes (standing (history self.old)) (standing (history self.new)) (changed self.new) };
 
     /// The process whose standing the last `act` changed, with its standing now. `None` where it changed none.

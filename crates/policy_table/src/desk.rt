@@ -110,7 +110,7 @@ impl<O: Booked> Desk<O> {
     }
 
     /// Waits for the turn, and makes a call of the object at the history that it finds.
-    /// At `NoMemory` nothing was added.
+    /// `NoMemory` is the object's own answer to that call, and then nothing was added.
     pub fn act<R: Wait>(
         &self,
         rt: &R,
@@ -122,6 +122,7 @@ impl<O: Booked> Desk<O> {
         ensures done { IfOk result (λ reply. (found : List O.Entry) × Finds pass.old found
             × CallsAt found pass.old pass.new × O.does found call reply pass.new.seen) }
         ensures none { IfErr result (λ error. Looks pass.old pass.new) }
+        ensures short { IfErr result (λ error. O.short pass.new.seen call) }
         ensures kept { (pass.new.desk ≡ pass.old.desk) × (pass.new.weight ≡ pass.old.weight) }
         ensures places { ArePlaces pass.new.mine (length pass.new.seen) }
     {
@@ -176,7 +177,7 @@ impl<O: Booked> Desk<O> {
     }
 
     // Waits for the turn, and takes the object out.
-    fn take<R: Wait>(&self, rt: &R, seat: &mut Place<O>) -> O
+    pub(crate) fn take<R: Wait>(&self, rt: &R, seat: &mut Place<O>) -> O
         requires desk { seat.old.table_id ≡ self.now }
         requires idle { (seat.old.me.1 ≡ []) × (0 < seat.old.me.0.weight) }
         ensures desk { seat.new.table_id ≡ seat.old.table_id }
@@ -193,7 +194,7 @@ impl<O: Booked> Desk<O> {
     }
 
     // Puts the object back after one call: what it added joins the history, and the turn is free.
-    fn put(&self, seat: &mut Place<O>, core: O)
+    pub(crate) fn put(&self, seat: &mut Place<O>, core: O)
         requires desk { seat.old.table_id ≡ self.now }
         requires empty { seat.old.me.1 ≡ (0, None) ∷ [] }
         requires turn { (seat.old.me.0.turn ≡ 1) × (0 < seat.old.me.0.weight) }

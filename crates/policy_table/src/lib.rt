@@ -8,7 +8,8 @@
 //! and its `weight`; the weights of all passes add up to 16.
 //!
 //! - `act` waits for the turn. It makes its call at a history that begins with all that the pass had seen,
-//!   and adds one entry or none, as the object of one thread does.
+//!   and adds one entry or none, as the object of one thread does. It finds no memory only where the
+//!   object's call at that history found none.
 //! - `standing` and `can_access` are one atomic load each. Their answer is that of a history that begins
 //!   with all that the pass had seen, and which the pass has seen afterwards. They take no runtime, so
 //!   they can't wait.
@@ -27,7 +28,6 @@ mod plays;
 mod row_words;
 mod standing;
 mod steps;
-pub mod toy;
 mod view;
 
 pub use booked::Booked;

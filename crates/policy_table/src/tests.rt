@@ -1,21 +1,33 @@
+//! Rows of desks that share a toy.
 ghost use Rattle.std.specs.Prelude.{◌≡◌, ◌<◌};
 ghost use Rattle.policy_table.specs.declared.standing.TheConstants.{PROCESSES};
 
-use crate::toy::{Mark, Toy, ToyCall};
 use crate::{Desk, NoMemory, PROCESSES, Pass, Standing};
 use std::sync::Wait;
 use std::test::*;
 use std::thread::{Threads, join};
 
+mod held_turn;
+mod toy;
+
+use toy::{Mark, Toy};
+
+/// A mark on a process.
+fn mark(process: u32, standing: Standing) -> Mark
+    ensures { result ≡ record { process = process; standing = standing } }
+{
+    Mark { process, standing }
+}
+
 #[test]
 fn a_death_is_seen_by_all(rt: HostRuntime) -> Result<(), Fail> {
-    let Ok((desk, mut pass)) = Desk::new(rt.alloc(), Toy::new(rt.alloc(), 2)) else {
+    let Ok((desk, mut pass)) = Desk::new(rt.alloc(), Toy::<2>::new(rt.alloc())?) else {
         panic!(&rt; "no memory")
     };
     let row = desk.handle(3);
     let mut early = desk.split(&mut pass);
     for standing in [Standing::Locked(0), Standing::Dead] {
-        desk.act(&rt, &mut pass, ToyCall::Set(3, standing))
+        desk.act(&rt, &mut pass, Some(mark(3, standing)))
             .expect(&rt, "there is room");
         let locked = standing == Standing::Locked(0);
         assert_eq!(&rt; desk.standing(&mut pass, &row), standing);
@@ -30,22 +42,26 @@ fn a_death_is_seen_by_all(rt: HostRuntime) -> Result<(), Fail> {
 }
 
 // A call that adds nothing leaves the places of the pass's own entries.
-fn idle<R: Wait>(rt: &R, desk: &Desk<Toy>, pass: &mut Pass<Mark>) -> Result<(), NoMemory>
+fn idle<R: Wait, const ROOM: usize>(
+    rt: &R,
+    desk: &Desk<Toy<ROOM>>,
+    pass: &mut Pass<Mark>,
+) -> Result<(), NoMemory>
     requires { pass.old.desk ≡ desk.now }
     ensures mine { pass.new.mine ≡ pass.old.mine }
     ensures kept { (pass.new.desk ≡ pass.old.desk) × (pass.new.weight ≡ pass.old.weight) }
 {
-    desk.act(rt, pass, ToyCall::Idle)
+    desk.act(rt, pass, None)
 }
 
 #[test]
 fn without_memory_nothing_is_added(rt: HostRuntime) -> Result<(), Fail> {
-    let Ok((desk, mut pass)) = Desk::new(rt.alloc(), Toy::new(rt.alloc(), 1)) else {
+    let Ok((desk, mut pass)) = Desk::new(rt.alloc(), Toy::<1>::new(rt.alloc())?) else {
         panic!(&rt; "no memory")
     };
     let row = desk.handle(7);
-    let warm = desk.act(&rt, &mut pass, ToyCall::Set(7, Standing::Warm));
-    let dead = desk.act(&rt, &mut pass, ToyCall::Set(7, Standing::Dead));
+    let warm = desk.act(&rt, &mut pass, Some(mark(7, Standing::Warm)));
+    let dead = desk.act(&rt, &mut pass, Some(mark(7, Standing::Dead)));
     let still = idle(&rt, &desk, &mut pass);
     assert_eq!(&rt;
         (warm.is_ok(), dead.is_ok(), still.is_ok()),
@@ -56,10 +72,13 @@ fn without_memory_nothing_is_added(rt: HostRuntime) -> Result<(), Fail> {
     Ok(())
 }
 
-// Sets a process to a standing, so many times.
-fn set_often<R: Wait>(
+/// A toy with room for the marks of two threads.
+type LongToy = Toy<2002>;
+
+// Marks a process so many times.
+fn mark_often<R: Wait>(
     rt: &R,
-    desk: &Desk<Toy>,
+    desk: &Desk<LongToy>,
     mut pass: Pass<Mark>,
     mark: Mark,
     times: u32,
@@ -69,13 +88,18 @@ fn set_often<R: Wait>(
     ensures { (result.desk ≡ pass.desk) × (result.weight ≡ pass.weight) }
 {
     for _ in 0..times {
-        let _ = desk.act(rt, &mut pass, ToyCall::Set(mark.process, mark.standing));
+        let _ = desk.act(rt, &mut pass, Some(mark));
     }
     pass
 }
 
 // Looks at a process so many times, and counts how often it has this standing.
-fn look_often(desk: &Desk<Toy>, mut pass: Pass<Mark>, mark: Mark, times: u32) -> (Pass<Mark>, u32)
+fn look_often(
+    desk: &Desk<LongToy>,
+    mut pass: Pass<Mark>,
+    mark: Mark,
+    times: u32,
+) -> (Pass<Mark>, u32)
     requires desk { pass.desk ≡ desk.now }
     requires small { mark.process < PROCESSES }
     ensures { (result.0.desk ≡ pass.desk) × (result.0.weight ≡ pass.weight) }
@@ -90,19 +114,19 @@ fn look_often(desk: &Desk<Toy>, mut pass: Pass<Mark>, mark: Mark, times: u32) ->
     (pass, count)
 }
 
-// One thread looks at a process while a second one sets another.
+// One thread looks at a process while a second one marks another.
 fn look_beside<R: Threads + Wait + Sync>(
     rt: &R,
-    desk: &Desk<Toy>,
+    desk: &Desk<LongToy>,
     looker: Pass<Mark>,
     looked: Mark,
-    setter: Pass<Mark>,
-    set: Mark,
+    marker: Pass<Mark>,
+    marked: Mark,
 ) -> ((Pass<Mark>, u32), Pass<Mark>)
-    requires desk { (looker.desk ≡ desk.now) × (setter.desk ≡ desk.now) }
-    requires small { (looked.process < PROCESSES) × (set.process < PROCESSES) }
+    requires desk { (looker.desk ≡ desk.now) × (marker.desk ≡ desk.now) }
+    requires small { (looked.process < PROCESSES) × (marked.process < PROCESSES) }
     ensures looker { (result.0.0.desk ≡ looker.desk) × (result.0.0.weight ≡ looker.weight) }
-    ensures setter { (result.1.desk ≡ setter.desk) × (result.1.weight ≡ setter.weight) }
+    ensures marker { (result.1.desk ≡ marker.desk) × (result.1.weight ≡ marker.weight) }
 {
     join(
         rt,
@@ -111,40 +135,31 @@ fn look_beside<R: Threads + Wait + Sync>(
             ensures { (result.0.desk ≡ looker.desk) × (result.0.weight ≡ looker.weight) }
         { look_often(desk, looker, looked, 1000) },
         move || -> Pass<Mark>
-            requires { (setter.desk ≡ desk.now) × (set.process < PROCESSES) }
-            ensures { (result.desk ≡ setter.desk) × (result.weight ≡ setter.weight) }
-        { set_often(rt, desk, setter, set, 1000) },
+            requires { (marker.desk ≡ desk.now) × (marked.process < PROCESSES) }
+            ensures { (result.desk ≡ marker.desk) × (result.weight ≡ marker.weight) }
+        { mark_often(rt, desk, marker, marked, 1000) },
     )
 }
 
 #[test]
 fn a_second_thread_changes_its_own_row(rt: HostRuntime) -> Result<(), Fail> {
-    let Ok((desk, mut pass)) = Desk::new(rt.alloc(), Toy::new(rt.alloc(), 2000)) else {
+    let Ok((desk, mut pass)) = Desk::new(rt.alloc(), LongToy::new(rt.alloc())?) else {
         panic!(&rt; "no memory")
     };
     for process in [3, 4] {
-        desk.act(&rt, &mut pass, ToyCall::Set(process, Standing::Locked(0)))
+        desk.act(&rt, &mut pass, Some(mark(process, Standing::Locked(0))))
             .expect(&rt, "there is room");
     }
-    let setter = desk.split(&mut pass);
+    let marker = desk.split(&mut pass);
     let mut unmet = desk.note(&mut pass);
-    let three = Mark {
-        process: 3,
-        standing: Standing::Locked(0),
-    };
-    let five = Mark {
-        process: 5,
-        standing: Standing::Dead,
-    };
-    let four = Mark {
-        process: 4,
-        standing: Standing::Dead,
-    };
-    let ((pass, found), setter) = look_beside(&rt, &desk, pass, three, setter, five);
+    let three = mark(3, Standing::Locked(0));
+    let five = mark(5, Standing::Dead);
+    let four = mark(4, Standing::Dead);
+    let ((pass, found), marker) = look_beside(&rt, &desk, pass, three, marker, five);
     assert_eq!(&rt; found, 1000);
 
     // A pass that is met with nobody sees what a joined thread has done.
-    let ((mut pass, found), setter) = look_beside(&rt, &desk, pass, three, setter, four);
+    let ((mut pass, found), marker) = look_beside(&rt, &desk, pass, three, marker, four);
     assert_eq!(&rt; found, 1000);
     let rows = [
         (3, Standing::Locked(0)),
@@ -154,8 +169,15 @@ fn a_second_thread_changes_its_own_row(rt: HostRuntime) -> Result<(), Fail> {
     for (process, standing) in rows {
         assert_eq!(&rt; desk.standing(&mut unmet, &desk.handle(process)), standing);
     }
-    desk.meet(&mut pass, setter);
+    desk.meet(&mut pass, marker);
     desk.meet(&mut pass, unmet);
-    assert_eq!(&rt; desk.close(pass).marks.len(), 2000);
+    assert_eq!(&rt; desk.close(pass).marks.len(), 2002);
+    Ok(())
+}
+
+#[test]
+fn text_of_the_error(rt: HostRuntime) -> Result<(), Fail> {
+    let text = format!(in rt.alloc(); "{NoMemory}")?;
+    assert_eq!(&rt; text.as_str(), "memory was refused");
     Ok(())
 }

@@ -1,11 +1,11 @@
-ghost use Rattle.std.specs.Prelude.{◌≡◌, ℕ, List, ◌∷◌, ◌++◌, [], length};
+ghost use Rattle.std.specs.Prelude.{◌≡◌, ◌-◌, ◌^◌, ℕ, List, ◌∷◌, ◌++◌, [], length};
 ghost use Rattle.policy_table_stress.specs.Tallies.{calls_before, standing_after};
 
 use policy_table::{Booked, NoMemory, Standing};
 
 /// An object that counts its calls. Each call adds one entry, which is the number of calls before it, and
 /// replies that number. Process 0 is locked to the site of half the number of calls, so that every second
-/// call changes its standing.
+/// call changes its standing. It says that it has no memory once the number of calls is the largest that it can count.
 #[derive(Drop)]
 pub struct Tally {
     /// The number of calls.
@@ -24,6 +24,8 @@ impl Booked for Tally {
     ghost history = { λ tally. calls_before tally.calls };
 
     ghost does = { λ before call reply after. (reply ≡ length before) × (after ≡ before ++ reply ∷ []) };
+
+    ghost short = { λ before call. length before ≡ 2 ^ 32 - 1 };
 
     ghost may = { λ before call. Unit {0} };
 

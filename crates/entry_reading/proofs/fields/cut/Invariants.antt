@@ -1,9 +1,7 @@
-use Rattle.std.proofs.Common.{◌≡◌, ◌++◌, take, drop}
-use Rattle.entry_reading.specs.Fields.{before, behind}
+use Rattle.std.proofs.Common.{◌≡◌, take, true}
+use Rattle.std.specs.List.{list_all}
+use Rattle.entry_reading.specs.Fields.{is_other}
 use Rattle.entry_reading.proofs.fields.cut.Given as goal
 
 abbrev pub invariant-loop-i : goal.invariant-loop-i
-invariant-loop-i l = record {
-  before : take l.i l.text ++ before l.mark (drop l.i l.text) ≡ before l.mark l.text;
-  behind : behind l.mark (drop l.i l.text) ≡ behind l.mark l.text;
-}
+invariant-loop-i l = list_all (is_other l.mark) (take l.i l.text) ≡ true

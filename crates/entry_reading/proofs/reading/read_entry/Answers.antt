@@ -1,11 +1,16 @@
-use Rattle.entry_reading.proofs.Answered.{unread, entry_answered}
+use Rattle.std.proofs.lemmas.Result.{err_from_is_err_and}
+use Rattle.entry_reading.proofs.Answered.{entry_answered, stopped_back, stopped_bad}
 use Rattle.entry_reading.proofs.reading.read_entry.Goals as goal
 
-pub returns-in-Ok-clause-back : goal.returns-in-Ok-clause-back
-returns-in-Ok-clause-back c = entry_answered c.args.line.now c.confirmed.result c.confirmed.ensures.read c.confirmed.ensures.bad
+pub returns-clause-back : goal.returns-clause-back
+returns-clause-back c = entry_answered c.args.line.now c.confirmed.result c.confirmed.ensures.read c.confirmed.ensures.bad
 
-pub returns-in-Err-BadLine-clause-bad : goal.returns-in-Err-BadLine-clause-bad
-returns-in-Err-BadLine-clause-bad c = λ _. unread c.args.line.now (rw c.in-Err-BadLine.field-0-is at c.in-Err-BadLine.ensures)
+pub returns-in_err-entry-clause-bad : goal.returns-in_err-entry-clause-bad
+returns-in_err-entry-clause-bad c =
+    let stop = err_from_is_err_and c.from_residual.result c.from_residual.ensures.1 in
+    rw (stop.1, stop.2) (stopped_bad c.args.line.now c.in_err-entry.field-0.0 c.in_err-entry.ensures)
 
-pub returns-in-Err-BadLine-clause-back : goal.returns-in-Err-BadLine-clause-back
-returns-in-Err-BadLine-clause-back c = λ e is. absurd (unread c.args.line.now (rw c.in-Err-BadLine.field-0-is at c.in-Err-BadLine.ensures) e is.0 is.1)
+pub returns-in_err-entry-clause-back : goal.returns-in_err-entry-clause-back
+returns-in_err-entry-clause-back c =
+    let stop = err_from_is_err_and c.from_residual.result c.from_residual.ensures.1 in
+    rw (stop.1, stop.2) (stopped_back c.args.line.now c.in_err-entry.field-0.0 c.in_err-entry.ensures)

@@ -1,5 +1,5 @@
 use Rattle.std.proofs.Common.{◌≡◌}
-use Rattle.policy_table.proofs.tests.set_often.Given as goal
+use Rattle.policy_table.proofs.tests.mark_often.Given as goal
 
 -- the pass stays the desk's, with its weight
 abbrev pub invariant-loop : goal.invariant-loop
