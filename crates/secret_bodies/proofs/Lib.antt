@@ -1,0 +1,10 @@
+pub mod Changed
+pub mod SameFrames
+pub mod OwnChains
+pub mod Bodies
+pub mod SameWords
+pub mod SameNexts
+pub mod StaysLegal
+pub mod ReadChains
+pub mod SameReceived
+pub mod Kept
