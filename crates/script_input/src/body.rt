@@ -15,13 +15,9 @@ use crate::value::{Integer, Reader};
 use bytes::Bytes;
 use hex::FromHexError;
 use script_model::Cuts;
+use script_model::limits::{MAX_BODY, MAX_CUTS};
 use serde_json::Value;
 use std::alloc::Global;
-
-/// The most bytes of a body.
-const MAX_BODY: usize = 16384;
-/// The most cuts of a body.
-const MAX_CUTS: usize = 63;
 
 /// `body` and `body_hex` are not both there.
 #[tactic(auto, unfolding(crate::specs::Bodies::one_body))]
@@ -124,13 +120,14 @@ impl ItemReader for CutOf {
     type Item = u32;
 
     ghost use Rattle.script_input.specs.Bodies as spec;
+    ghost use Rattle.script_input.specs.Kept.{AreCuts};
 
     ghost item_reading = { λ body. spec.cut_at body.size };
 
-    ghost listed = { λ body cuts. spec.AreCuts body.size cuts };
+    ghost listed = { λ body cuts. AreCuts body.size cuts };
 
     #[tactic(auto, using(crate::proofs::CutLimits::one_more_cut))]
-    fn item(&self, alloc: Global, before: &[u32], value: &Value) -> Result<u32, ScriptStop> {
+    fn item(&mut self, alloc: Global, before: &[u32], value: &Value) -> Result<u32, ScriptStop> {
         cut_at(alloc, self.size, before, value)
     }
 }
@@ -153,7 +150,7 @@ impl Reader for CutsOf {
 
     #[tactic(auto, using(crate::proofs::CutLimits::no_cuts, crate::proofs::CutLimits::are_cuts))]
     fn read(&self, alloc: Global, value: &Value) -> Result<Cuts, ScriptStop> {
-        let cuts = list_at(alloc, &CutOf { size: self.size }, MAX_CUTS, value)?;
+        let cuts = list_at(alloc, &mut CutOf { size: self.size }, MAX_CUTS, value)?;
         Ok(Cuts::from_vec(cuts))
     }
 }

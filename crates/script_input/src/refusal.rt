@@ -1,13 +1,16 @@
-ghost use Rattle.std.specs.Prelude.{◌≡◌, ◌∷◌, ◌++◌, [], IfOk};
+//! Refusals, and how they are spelled.
+
+ghost use Rattle.std.specs.Prelude.{◌≡◌, ◌∷◌, ◌++◌, [], IfOk, Some};
 ghost use Rattle.script_input.specs.declared.refusal.ScriptStop.TheVariants as stops;
 ghost use Rattle.script_input.specs.Refusals as spec;
 ghost use Rattle.script_input.specs.Answers.{IsBehind};
 
 use script_model::NoMemory;
 use std::alloc::{AllocError, AllocFailed, Global};
+use std::error::Error;
 use std::fmt;
 use std::marker::Model;
-use thiserror::Error;
+use thiserror::Error as ErrorText;
 
 /// X1: the bytes are not JSON.
 pub const NOT_JSON: u8 = 1;
@@ -108,9 +111,12 @@ impl Refusal {
     }
 }
 
+/// `refused X2 /start/0`, `refused X4 line 3` or `refused X1`.
 impl fmt::Display for Refusal {
+    ghost output = { λ refusal. Some (spec.refusal_text refusal) };
+
     fn fmt<W: fmt::Write>(&self, f: &mut fmt::Formatter<W>) -> fmt::Result {
-        write!(f, "X{}", self.code)?;
+        write!(f, "refused X{}", self.code)?;
         if !self.path.as_str().is_empty() {
             write!(f, " {}", self.path.as_str())?;
         }
@@ -121,14 +127,15 @@ impl fmt::Display for Refusal {
     }
 }
 
+impl Error for Refusal {}
+
 /// Why bytes gave no script.
-#[derive(Debug, Drop, Error)]
+#[derive(Debug, Drop, ErrorText)]
 pub enum ScriptStop {
     /// The bytes are no script, for the first of their faults.
-    #[error("the script is refused: {0}")]
+    #[error("{0}")]
     Refused(Refusal),
-    /// Memory ran out.
-    #[error("memory ran out")]
+    #[error("{}", script_model::NoMemory)]
     NoMemory,
 }
 

@@ -1,35 +1,31 @@
 //! Resources of a script.
 
-ghost use Rattle.std.specs.Prelude.{◌≡◌, ◌≤◌, All, IfOk, codes, false, length, true};
-ghost use Rattle.page_origin.specs.PageUrls.{class_of, key_of};
+ghost use Rattle.std.specs.Prelude.{◌≡◌, ◌≤◌, All, IfOk, false, length};
+ghost use Rattle.std.specs.HashSet.{contains_text};
 ghost use Rattle.serde_json.specs.View.{view};
 ghost use Rattle.script_model.specs.ActionLimits.{IsActionAmong};
 ghost use Rattle.script_model.specs.ResourceData.{IsHeaders, is_resource_class};
 ghost use Rattle.script_model.specs.ScriptData.{resource_key};
 ghost use Rattle.script_input.specs.Answers.{Gives, GivesBy};
-ghost use Rattle.script_input.specs.Objects.{required};
+ghost use Rattle.script_input.specs.Kept.{AreActions, AreResources};
 ghost use Rattle.script_input.specs.Resources as spec;
-ghost use Rattle.script_input.specs.Resources.{AreResources};
 
 use crate::action::action_at;
 use crate::body::{delivery_in, one_body};
 use crate::header::Headers;
 use crate::list::{Each, ItemReader, list_at};
-use crate::object::{object_at, optional};
-use crate::refusal::{PAST_LIMIT, SAME_KEY, ScriptStop, WRONG_SHAPE, WRONG_URL, behind, refused};
+use crate::object::{object_at, optional, required};
+use crate::refusal::{PAST_LIMIT, SAME_KEY, ScriptStop, WRONG_SHAPE, WRONG_URL, refused};
 use crate::text::string_at;
 use crate::urls::url_of;
-use crate::value::{Integer, Reader, below};
+use crate::value::{Integer, Reader};
 use http::StatusCode;
 use http_header::HeaderMap;
+use script_model::limits::{MAX_ACTIONS, MAX_RESOURCES};
 use script_model::{Action, Actions, Head, PageUrl, Resource, Resources, UrlClass};
 use serde_json::Value;
 use std::alloc::Global;
-
-/// The most actions of a resource.
-const MAX_ACTIONS: usize = 64;
-/// The most resources of a script.
-const MAX_RESOURCES: usize = 1024;
+use std::collections::HashSet;
 
 /// Whether resources have URLs of this class.
 fn is_resource_class(class: UrlClass) -> bool
@@ -41,39 +37,36 @@ fn is_resource_class(class: UrlClass) -> bool
     }
 }
 
-/// Whether one of the resources has this key.
-fn has_key(key: &str, resources: &[Resource]) -> bool
-    ensures { result ≡ spec.has_key key.now resources.now }
-{
-    resources.iter().any(|resource| resource.url.key() == key)
+/// The URL of a resource, whose key is none of those that are taken.
+#[derive(Drop)]
+struct NewUrl<'a> {
+    taken: &'a HashSet<String>,
 }
 
-#[tactic(auto, unfolding(crate::specs::Resources::url_at))]
-fn url_at(alloc: Global, before: &[Resource], value: &Value) -> Result<PageUrl, ScriptStop>
-    ensures gives { Gives result (spec.url_at before.now (view value.now)) }
-    ensures class { IfOk result (λ url. is_resource_class (class_of url) ≡ true) }
-    ensures new_key { IfOk result (λ url. spec.has_key (key_of url) before.now ≡ false) }
-{
-    let text = string_at(alloc, value)?;
-    let url = url_of(alloc, text)?;
-    if !is_resource_class(url.class()) {
-        return Err(refused(alloc, WRONG_URL));
-    }
-    if has_key(url.key(), before) {
-        return Err(refused(alloc, SAME_KEY));
-    }
-    Ok(url)
-}
+impl Reader for NewUrl<'_> {
+    type Read = PageUrl;
 
-#[tactic(auto, unfolding(crate::specs::Objects::required), using(crate::proofs::BelowLemmas::below_gives))]
-fn url_in(alloc: Global, before: &[Resource], value: &Value) -> Result<PageUrl, ScriptStop>
-    ensures gives { Gives result (required (codes "url") (spec.url_at before.now) (view value.now)) }
-    ensures class { IfOk result (λ url. is_resource_class (class_of url) ≡ true) }
-    ensures new_key { IfOk result (λ url. spec.has_key (key_of url) before.now ≡ false) }
-{
-    match value.get("url") {
-        Some(found) => below(alloc, "url", url_at(alloc, before, found)),
-        None => Err(behind(alloc, "url", refused(alloc, WRONG_SHAPE))),
+    ghost use Rattle.std.specs.Prelude.{◌≡◌, false, true};
+    ghost use Rattle.std.specs.HashSet.{contains_text};
+    ghost use Rattle.page_origin.specs.PageUrls.{class_of, key_of};
+    ghost use Rattle.script_model.specs.ResourceData.{is_resource_class};
+    ghost use Rattle.script_input.specs.Resources as spec;
+
+    ghost reading = { λ new. spec.url_at (contains_text new.taken.now) };
+
+    ghost keeps = { λ new url. (is_resource_class (class_of url) ≡ true) × (contains_text new.taken.now (key_of url) ≡ false) };
+
+    #[tactic(auto, unfolding(crate::specs::Resources::url_at))]
+    fn read(&self, alloc: Global, value: &Value) -> Result<PageUrl, ScriptStop> {
+        let text = string_at(alloc, value)?;
+        let url = url_of(alloc, text)?;
+        if !is_resource_class(url.class()) {
+            return Err(refused(alloc, WRONG_URL));
+        }
+        if self.taken.contains(url.key()) {
+            return Err(refused(alloc, SAME_KEY));
+        }
+        Ok(url)
     }
 }
 
@@ -146,16 +139,17 @@ struct ActionsAmong {
 impl Reader for ActionsAmong {
     type Read = Actions;
 
+    ghost use Rattle.script_input.specs.Kept.{AreActions};
     ghost use Rattle.script_input.specs.Resources as spec;
 
     ghost reading = { λ limit. spec.actions_at limit.count };
 
-    ghost keeps = { λ limit actions. spec.AreActions limit.count actions };
+    ghost keeps = { λ limit actions. AreActions limit.count actions };
 
     #[tactic(auto, using(crate::proofs::ActionLimits::are_actions, crate::proofs::ActionLimits::no_action))]
     fn read(&self, alloc: Global, value: &Value) -> Result<Actions, ScriptStop> {
         let among = ActionAmong { count: self.count };
-        let actions = list_at(alloc, &Each(among), MAX_ACTIONS, value)?;
+        let actions = list_at(alloc, &mut Each(among), MAX_ACTIONS, value)?;
         Ok(Actions::from_vec(actions))
     }
 }
@@ -164,7 +158,7 @@ impl Reader for ActionsAmong {
 #[tactic(auto, unfolding(crate::specs::Resources::actions_in), using(crate::proofs::ActionLimits::no_actions))]
 fn actions_in(alloc: Global, count: u32, value: &Value) -> Result<Actions, ScriptStop>
     ensures gives { Gives result (spec.actions_in count (view value.now)) }
-    ensures keeps { IfOk result (spec.AreActions count) }
+    ensures keeps { IfOk result (AreActions count) }
 {
     let actions = optional(alloc, "actions", &ActionsAmong { count }, value)?;
     Ok(actions.unwrap_or(Actions::from_vec(Vec::new(alloc))))
@@ -174,11 +168,11 @@ fn actions_in(alloc: Global, count: u32, value: &Value) -> Result<Actions, Scrip
 fn resource_at(
     alloc: Global,
     count: u32,
-    before: &[Resource],
+    taken: &HashSet<String>,
     value: &Value,
 ) -> Result<Resource, ScriptStop>
-    ensures gives { Gives result (spec.resource_at count before.now (view value.now)) }
-    ensures new_key { IfOk result (λ resource. spec.has_key (resource_key resource) before.now ≡ false) }
+    ensures gives { Gives result (spec.resource_at count (contains_text taken.now) (view value.now)) }
+    ensures new_key { IfOk result (λ resource. contains_text taken.now (resource_key resource) ≡ false) }
     ensures among { IfOk result (λ resource. All (IsActionAmong count) resource.actions) }
 {
     let keys = [
@@ -193,7 +187,7 @@ fn resource_at(
     ];
     object_at(alloc, &["url"], &keys, value)?;
     one_body(alloc, value)?;
-    let url = url_in(alloc, before, value)?;
+    let url = required(alloc, "url", &NewUrl { taken }, value)?;
     let head = head_in(alloc, value)?;
     let delivery = delivery_in(alloc, value)?;
     let actions = actions_in(alloc, count, value)?;
@@ -207,28 +201,35 @@ fn resource_at(
     })
 }
 
-/// One resource, in a script of so many.
-#[derive(Clone, Copy)]
+/// One resource, in a script of so many, with the keys of those before it.
+#[derive(Drop)]
 struct ResourceAmong {
     count: u32,
+    keys: HashSet<String>,
 }
 
 impl ItemReader for ResourceAmong {
     type Item = Resource;
 
+    ghost use Rattle.std.specs.Prelude.{◌≡◌};
+    ghost use Rattle.std.specs.HashSet.{contains_text};
+    ghost use Rattle.script_input.specs.Kept.{AreResources};
     ghost use Rattle.script_input.specs.Resources as spec;
 
-    ghost item_reading = { λ limit. spec.resource_at limit.count };
+    ghost item_reading = { λ among before. spec.resource_at among.count (spec.is_key_of before) };
 
-    ghost listed = { λ limit resources. spec.AreResources limit.count resources };
+    ghost listed = { λ among before. AreResources among.count before × (contains_text among.keys ≡ spec.is_key_of before) };
 
     fn item(
-        &self,
+        &mut self,
         alloc: Global,
-        before: &[Resource],
+        _before: &[Resource],
         value: &Value,
     ) -> Result<Resource, ScriptStop> {
-        resource_at(alloc, self.count, before, value)
+        let resource = resource_at(alloc, self.count, &self.keys, value)?;
+        let key = String::from_str(alloc, resource.url.key())?;
+        self.keys.insert(key)?;
+        Ok(resource)
     }
 }
 
@@ -240,10 +241,11 @@ fn resources_at(alloc: Global, value: &Value) -> Result<Vec<Resource>, ScriptSto
 {
     match value.as_array() {
         Some(values) if values.len() <= MAX_RESOURCES => {
-            let among = ResourceAmong {
+            let mut among = ResourceAmong {
                 count: values.len() as u32,
+                keys: HashSet::new(alloc),
             };
-            list_at(alloc, &among, MAX_RESOURCES, value)
+            list_at(alloc, &mut among, MAX_RESOURCES, value)
         }
         Some(_) => Err(refused(alloc, PAST_LIMIT)),
         None => Err(refused(alloc, WRONG_SHAPE)),
@@ -257,11 +259,12 @@ impl Reader for AllResources {
     type Read = Resources;
 
     ghost use Rattle.std.specs.Prelude.{◌≤◌, length};
+    ghost use Rattle.script_input.specs.Kept.{AreResources};
     ghost use Rattle.script_input.specs.Resources as spec;
 
     ghost reading = { λ _. spec.resources_at };
 
-    ghost keeps = { λ _ resources. (length resources ≤ 1024) × spec.AreResources (length resources) resources };
+    ghost keeps = { λ _ resources. (length resources ≤ 1024) × AreResources (length resources) resources };
 
     fn read(&self, alloc: Global, value: &Value) -> Result<Resources, ScriptStop> {
         let resources = resources_at(alloc, value)?;
