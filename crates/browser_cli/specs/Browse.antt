@@ -2,6 +2,7 @@
 use Rattle.std.specs.Prelude.{◌≡◌, ◌∷◌, [], ◌<◌, Err, List, Ok, Option, codes, if◌then◌else◌, length, nat_lt, take, ℕ}
 use Rattle.std.specs.Io.KnownBytes.{Appends}
 use Rattle.history_entry.specs.declared.entry.Entry.{Entry}
+use Rattle.history_entry.specs.declared.policy.Policy.TheVariants.{Two}
 use Rattle.script_model.specs.ScriptData.{ScriptData}
 use Rattle.history.specs.Run.{IsRun}
 use Rattle.history.specs.Text.{text_of}
@@ -18,13 +19,13 @@ input_limit = 4194304
 abbrev pub IsOne : List (List ℕ) → Type 0
 IsOne words = words ≡ codes "one" ∷ []
 
--- the input is a script that is run, and the output is the text of the one-thread run of that script
+-- the input is a script that is run, and the output is the text of the one-thread run of that script, of version two
 pub record IsOutput (input output : List ℕ) : Type 0 where
   pub script : ScriptData
   pub is_script : runnable_script input ≡ Ok script
   pub history : List Entry
   pub is_run : IsRun script history
-  pub is_text : output ≡ text_of history
+  pub is_text : output ≡ text_of Two history
 
 -- exactly the whole output for the input was written
 abbrev pub WritesOutput : Option (List ℕ) → Option (List ℕ) → List ℕ → Type 0

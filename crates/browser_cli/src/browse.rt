@@ -1,9 +1,9 @@
 //! The top call.
 
-ghost use Rattle.std.specs.Prelude.{◌≡◌, ◌↔◌, ◌+◌, IfOk, IfSome, IsTrue, List, Some, codes, map, ℕ};
+ghost use Rattle.std.specs.Prelude.{◌≡◌, ◌≤◌, ◌↔◌, ◌+◌, IfOk, IfSome, IsTrue, List, Some, codes, map, ℕ};
 ghost use Rattle.std.specs.Io.KnownBytes.{IsAtEnd};
 ghost use Rattle.browser_io.specs.Faults.{Rose};
-ghost use Rattle.browser_io.specs.Moved.{TakesAtMost, TakesExactly};
+ghost use Rattle.browser_io.specs.Moved.{KeepsTelling, TakesAtMost, TakesExactly};
 ghost use Rattle.script_input.specs.Answers.{Gives};
 ghost use Rattle.script_input.specs.declared.refusal.Refusal.{Refusal as RefusalData};
 ghost use Rattle.browser_cli.specs.NotBuilt.{runnable_script};
@@ -14,7 +14,7 @@ use crate::status::Status;
 use browser_io::{ReadStop, Sink, Source, read_all, write_all};
 use history::{run1, text_of};
 use script_input::{Refusal, ScriptStop, read_script};
-use script_model::Script;
+use script_model::{Policy, Script};
 use std::alloc::Global;
 
 /// X9: not built yet.
@@ -55,7 +55,7 @@ fn output_of(alloc: Global, input: &[u8]) -> Result<Vec<u8>, ScriptStop>
 {
     let script = runnable_script(alloc, input)?;
     let history = run1(alloc, &script)?;
-    Ok(text_of(alloc, &history)?)
+    Ok(text_of(alloc, Policy::Two, &history)?)
 }
 
 /// Does all that the program does: `words` name the command, its input is read from `source` and its output written to
@@ -84,11 +84,20 @@ pub fn browse_one<S: Source, K: Sink>(
 
     // A failed write leaves a part of the whole output written, from its front on.
     ensures write_fault { result ≡ Status.WriteFault → Rose (K.faults sink.old) (K.faults sink.new) }
+    ensures write_read { result ≡ Status.WriteFault → IsAtEnd (S.left source.new) }
     ensures write_part { result ≡ Status.WriteFault → IfSome (S.left source.old) (WritesPart (K.written sink.old) (K.written sink.new)) }
 
     // Nothing is written otherwise, and nothing read for other words.
     ensures unwritten { ¬ (result ≡ Status.Ran) → ¬ (result ≡ Status.WriteFault) → sink.new ≡ sink.old }
     ensures unread { result ≡ Status.Usage → source.new ≡ source.old }
+
+    // A count of faults never falls, and rises in a faulty call alone; an object that tells its bytes goes on telling them.
+    ensures source_later { S.faults source.old ≤ S.faults source.new }
+    ensures source_calm { ¬ (result ≡ Status.ReadFault) → S.faults source.new ≡ S.faults source.old }
+    ensures source_telling { KeepsTelling (S.left source.old) (S.left source.new) }
+    ensures sink_later { K.faults sink.old ≤ K.faults sink.new }
+    ensures sink_calm { ¬ (result ≡ Status.WriteFault) → K.faults sink.new ≡ K.faults sink.old }
+    ensures sink_telling { KeepsTelling (K.written sink.old) (K.written sink.new) }
 
     // The input alone decides where no fault rose and memory was found.
     ensures complete { (input : List ℕ) → IsOne (map (λ w. w.now) words.now) → S.left source.old ≡ Some input

@@ -7,12 +7,14 @@ use std::test::Fail;
 
 const PAGE: &str = r#"{"start":["https://a.com/"],"resources":[{"url":"https://a.com/"}]}"#;
 
-const PAGE_TEXT: &str = "open 0
+const PAGE_TEXT: &str = "history 2
+open 0
 order 0 0 https://a.com https://a.com https://a.com/
 commit 0 0 https://a.com 68747470733a2f2f612e636f6d2f => ok
 ";
 
-const OTHER_TEXT: &str = "open 0
+const OTHER_TEXT: &str = "history 2
+open 0
 order 0 0 https://b.org https://b.org https://b.org/
 commit 0 0 https://b.org 68747470733a2f2f622e6f72672f => ok
 ";
@@ -52,7 +54,7 @@ fn commands_end_with_their_status(rt: HostRuntime) -> Result<(), Fail> {
     let usage = "usage: one | run N | audit | gen NUMBER";
     let cases: [(&[&str], &str, u8, &str, &str); 11] = [
         (&["one"], PAGE, 0, "", PAGE_TEXT),
-        (&["one"], r#"{"start":[]}"#, 0, "", ""),
+        (&["one"], r#"{"start":[]}"#, 0, "", "history 2\n"),
         (
             &["one"],
             r#"{"start":["https://b.org/"]}"#,
@@ -86,6 +88,49 @@ fn commands_end_with_their_status(rt: HostRuntime) -> Result<(), Fail> {
     Ok(())
 }
 
+// The suffix rules, the isolated origin and the start page of a script, and the site and the origin of its order.
+const SITES: &[(&str, &str, &str, &str, &str)] = &[
+    ("", "https://pay.a.com", "https://pay.a.com/", "=https://pay.a.com", "https://pay.a.com"),
+    (
+        "",
+        "https://pay.a.com:8443/any/path",
+        "https://pay.a.com:8443/x",
+        "=https://pay.a.com:8443",
+        "https://pay.a.com:8443",
+    ),
+    ("", "https://pay.a.com:8443", "https://pay.a.com/", "https://a.com", "https://pay.a.com"),
+    ("", "https://pay.a.com", "http://pay.a.com/", "http://a.com", "http://pay.a.com"),
+    (
+        "",
+        "http://127.0.0.1:8080",
+        "http://127.0.0.1:8080/",
+        "=http://127.0.0.1:8080",
+        "http://127.0.0.1:8080",
+    ),
+    ("", "https://pay.a.com", "https://sub.pay.a.com/", "https://a.com", "https://sub.pay.a.com"),
+    ("co.uk", "https://pay.a.com", "https://www.shop.co.uk/", "https://shop.co.uk", "https://www.shop.co.uk"),
+    ("uk", "https://pay.a.com", "https://www.shop.co.uk/", "https://co.uk", "https://www.shop.co.uk"),
+];
+
+fn order_of(alloc: Global, suffixes: &str, isolated: &str, page: &str) -> Result<String, Fail> {
+    let script = format!(in alloc;
+        "{{\"suffixes\":\"{suffixes}\",\"start\":[\"{page}\"],\"isolated_origins\":[\"{isolated}\"]}}"
+    )?;
+    let ended = run(alloc, &["one"], script.as_str(), 4096, None, None)?;
+    let order = ended.written.as_str().lines().nth(2).unwrap_or("");
+    Ok(String::from_str(alloc, order)?)
+}
+
+#[test]
+fn orders_name_the_site_of_their_page(rt: HostRuntime) -> Result<(), Fail> {
+    for (suffixes, isolated, page, site, origin) in SITES {
+        let order = order_of(rt.alloc(), suffixes, isolated, page)?;
+        let wanted = format!(in rt.alloc(); "order 0 0 {site} {origin} {page}")?;
+        assert_eq!(rt; order.as_str(), wanted.as_str());
+    }
+    Ok(())
+}
+
 #[test]
 fn faults_of_source_and_sink_are_told(rt: HostRuntime) -> Result<(), Fail> {
     let ended = run(rt.alloc(), &["one"], PAGE, 8, Some(0), None)?;
@@ -93,7 +138,7 @@ fn faults_of_source_and_sink_are_told(rt: HostRuntime) -> Result<(), Fail> {
     assert_eq!(rt; ended.written.as_str(), "");
     let ended = run(rt.alloc(), &["one"], PAGE, 8, None, Some(1))?;
     assert_eq!(rt; (ended.code, ended.line.as_str()), (4, "write fault"));
-    assert_eq!(rt; ended.written.as_str(), "open 0\no");
+    assert_eq!(rt; ended.written.as_str(), "history ");
     Ok(())
 }
 

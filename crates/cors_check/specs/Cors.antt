@@ -1,17 +1,11 @@
--- The CORS check of the Fetch Standard, without credentials, and "get" of a header list, which joins the values of all
--- headers of one name.
-use Rattle.std.specs.Prelude.{ℕ, Bool, ◌&&◌, ◌||◌, nat_lt, List, [], ◌∷◌, ◌++◌, length, codes, bytes_eq, if◌then◌else◌}
+-- The CORS check of the Fetch Standard, without credentials.
+use Rattle.std.specs.Prelude.{ℕ, Bool, ◌&&◌, ◌||◌, nat_lt, List, length, codes, bytes_eq, if◌then◌else◌}
 use Rattle.http_header.specs.HeaderMap.{Entries, get_all}
+use Rattle.mime_kind.specs.JoinedValues.{joined_values}
 use Rattle.page_origin.specs.declared.origin.Origin.{Origin}
 use Rattle.cors_check.specs.declared.answer.Cors.{Cors}
 use Rattle.cors_check.specs.declared.answer.Cors.TheVariants.{SameOrigin, Passed, Failed}
 use Rattle.cors_check.specs.Chains.{is_same_origin_chain, compared_text}
-
--- the values with a comma and a space between each two
-abbrev pub joined_values : List (List ℕ) → List ℕ
-joined_values [] = []
-joined_values (v ∷ []) = v
-joined_values (v ∷ w ∷ values) = v ++ codes ", " ++ joined_values (w ∷ values)
 
 -- there is a value, and joined they are `*` or the compared text
 abbrev pub allows : List ℕ → List (List ℕ) → Bool

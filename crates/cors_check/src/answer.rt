@@ -4,9 +4,8 @@ ghost use Rattle.cors_check.specs.Chains.{IsWebChain, compared_text};
 ghost use Rattle.cors_check.specs.Cors.{allows, cors};
 
 use crate::chain::is_same_origin_chain;
-use crate::values::is_joined;
 use http_header::HeaderMap;
-use mime_kind::FieldText;
+use mime_kind::{FieldText, is_joined};
 use page_origin::{Origin, OriginText, PageUrl};
 
 /// Whether a response may be read by the request's origin.
@@ -23,7 +22,7 @@ pub enum Cors {
 /// The header by which a response names the origin that may read it.
 const ALLOW_ORIGIN: &str = "access-control-allow-origin";
 
-#[tactic(auto, using(crate::proofs::Joining::has_value))]
+#[tactic(auto, using(crate::proofs::FirstValue::has_value))]
 fn allows(compared: &[u8], fields: &HeaderMap<FieldText>) -> bool
     ensures { result ≡ allows compared.now (get_all fields.now (codes "access-control-allow-origin")) }
 {

@@ -7,9 +7,9 @@
 mod answer;
 mod chain;
 mod compared;
-mod values;
 
 pub use answer::{Cors, check};
+pub use chain::is_same_origin_chain;
 pub use compared::compared_text;
 
 #[cfg(test)]

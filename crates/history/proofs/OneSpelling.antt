@@ -21,7 +21,7 @@ use Rattle.script_model.specs.ScriptData.{ScriptData, starts}
 use Rattle.history.specs.MayFollow.{MayFollow, next_of, order_to}
 use Rattle.history.specs.Objects.{HasOneSpelling, NavigationOf, OrderOf, object_of}
 use Rattle.history.specs.Run.{Legal}
-use Rattle.history.specs.Text.{text_of}
+use Rattle.history.specs.Text.{head_of, lines_of, text_of}
 use Rattle.history.proofs.Bound.{legal_take, order_row, ordered_within}
 use Rattle.history.proofs.OneEach.{one_follows}
 use Rattle.history.proofs.Rows.{answering, ordering}
@@ -185,20 +185,21 @@ next_may s xs ys e legal =
     let P : List Entry → Type 0 = λ g. MayFollow s g e in
     subst P (before_it xs (e ∷ ys)) (legal (length xs) e (after xs ys e))
 
-go_on : (s : ScriptData) → starts s ≤ 64 → (before xs ys : List Entry) → Legal s (before ++ xs) → Legal s (before ++ ys) → text_of xs ≡ text_of ys → xs ≡ ys
-unfolding text_of
+go_on : (s : ScriptData) → starts s ≤ 64 → (before xs ys : List Entry) → Legal s (before ++ xs) → Legal s (before ++ ys) → lines_of xs ≡ lines_of ys → xs ≡ ys
+unfolding lines_of
 go_on s few before [] [] a b e = refl
-go_on s few before [] (y ∷ ys) a b e = let may = next_may s before ys y b in absurd (not_empty s before y may (sym (letter_is s before y (text_of ys) may) ∙ ap second_letter (sym e)))
-go_on s few before (x ∷ xs) [] a b e = let may = next_may s before xs x a in absurd (not_empty s before x may (sym (letter_is s before x (text_of xs) may) ∙ ap second_letter e))
+go_on s few before [] (y ∷ ys) a b e = let may = next_may s before ys y b in absurd (not_empty s before y may (sym (letter_is s before y (lines_of ys) may) ∙ ap second_letter (sym e)))
+go_on s few before (x ∷ xs) [] a b e = let may = next_may s before xs x a in absurd (not_empty s before x may (sym (letter_is s before x (lines_of xs) may) ∙ ap second_letter e))
 go_on s few before (x ∷ xs) (y ∷ ys) a b e =
-    let same : x ≡ y = entry_same s before x y (text_of xs) (text_of ys) few (first_part s before (x ∷ xs) a) (next_may s before xs x a) (next_may s before ys y b) e in
+    let same : x ≡ y = entry_same s before x y (lines_of xs) (lines_of ys) few (first_part s before (x ∷ xs) a) (next_may s before xs x a) (next_may s before ys y b) e in
     let P : Entry → Type 0 = λ z. Legal s (before ++ z ∷ ys) in
-    let Q : Entry → Type 0 = λ z. line_of x ++ text_of xs ≡ line_of z ++ text_of ys in
-    let rest : text_of xs ≡ text_of ys = append_cancel_left (line_of x) (text_of xs) (text_of ys) (subst Q (sym same) e) in
+    let Q : Entry → Type 0 = λ z. line_of x ++ lines_of xs ≡ line_of z ++ lines_of ys in
+    let rest : lines_of xs ≡ lines_of ys = append_cancel_left (line_of x) (lines_of xs) (lines_of ys) (subst Q (sym same) e) in
     let one : Legal s ((before ++ x ∷ []) ++ xs) = subst (Legal s) (sym (append_assoc before (x ∷ []) xs)) a in
     let two : Legal s ((before ++ x ∷ []) ++ ys) = subst (Legal s) (sym (append_assoc before (x ∷ []) ys)) (subst P (sym same) b) in
     ap (λ z. z ∷ xs) same ∙ ap (λ zs. y ∷ zs) (go_on s few (before ++ x ∷ []) xs ys one two rest)
 
 -- two legal histories with equal texts are equal
 pub one_spelling : (s : ScriptData) → starts s ≤ 64 → HasOneSpelling s
-one_spelling s few h g a b e = go_on s few [] h g a b e
+unfolding text_of
+one_spelling s few policy h g a b e = go_on s few [] h g a b (append_cancel_left (head_of policy) (lines_of h) (lines_of g) e)

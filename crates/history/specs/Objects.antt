@@ -6,6 +6,7 @@ use Rattle.history.specs.Nexts.{nexts}
 use Rattle.history.specs.Run.{IsRun, Legal}
 use Rattle.history.specs.Text.{text_of}
 use Rattle.script_model.specs.ScriptData.{ScriptData, starts}
+use Rattle.history_entry.specs.declared.policy.Policy.{Policy}
 use Rattle.history_entry.specs.declared.entry.Entry.{Entry}
 use Rattle.history_entry.specs.declared.entry.Entry.TheVariants.{Commit, Crash, End, Exit, Head, Hop, Local, NavEnd, Opened, Order, Piece, Said, Warm}
 use Rattle.history_entry.specs.declared.entry.HopOf.TheVariants.{Nav, Req}
@@ -57,6 +58,6 @@ RunsAreLegal s = (h : List Entry) → IsRun s h → Legal s h
 abbrev pub IsBounded : ScriptData → Type 0
 IsBounded s = (h : List Entry) → Legal s h → length h ≤ 3 * starts s
 
--- two legal histories with equal texts are equal
+-- two legal histories with equal texts under one policy are equal
 abbrev pub HasOneSpelling : ScriptData → Type 0
-HasOneSpelling s = (h g : List Entry) → Legal s h → Legal s g → text_of h ≡ text_of g → h ≡ g
+HasOneSpelling s = (policy : Policy) (h g : List Entry) → Legal s h → Legal s g → text_of policy h ≡ text_of policy g → h ≡ g

@@ -2,19 +2,10 @@ ghost use Rattle.std.specs.Prelude.{◌≡◌, ◌≤◌, All, IfOk, length};
 ghost use Rattle.page_origin.specs.PageUrls.{class_of};
 
 use crate::{History, may, nexts, run1, text_of};
-use script_model::{Entry, PageUrl, PageUrls, Rules, Script, UrlClass, page_url};
+use script_model::{Entry, PageUrls, Policy, Rules, Script, SiteRules, UrlClass};
 use std::alloc::Global;
 use std::test::Fail;
-
-fn web_page(alloc: Global, text: &str) -> Result<PageUrl, Fail>
-    ensures { IfOk result (λ url. class_of url ≡ UrlClass.Web) }
-{
-    let url = page_url(alloc, text)?;
-    if url.class() != UrlClass::Web {
-        return Err(Fail::new("no page of the web"));
-    }
-    Ok(url)
-}
+use test_support::web_url;
 
 fn start_pages(alloc: Global, pages: &[&str]) -> Result<PageUrls, Fail>
     ensures few { IfOk result (λ urls. length urls ≤ 2) }
@@ -24,12 +15,12 @@ fn start_pages(alloc: Global, pages: &[&str]) -> Result<PageUrls, Fail>
     match pages {
         [] => Ok(PageUrls::from_vec(start)),
         [page] => {
-            start.push(web_page(alloc, page)?)?;
+            start.push(web_url(alloc, page)?)?;
             Ok(PageUrls::from_vec(start))
         }
         [first, second] => {
-            start.push(web_page(alloc, first)?)?;
-            start.push(web_page(alloc, second)?)?;
+            start.push(web_url(alloc, first)?)?;
+            start.push(web_url(alloc, second)?)?;
             Ok(PageUrls::from_vec(start))
         }
         _ => Err(Fail::new("more than two pages")),
@@ -38,19 +29,32 @@ fn start_pages(alloc: Global, pages: &[&str]) -> Result<PageUrls, Fail>
 
 fn script(alloc: Global, pages: &[&str]) -> Result<Script, Fail> {
     let start = start_pages(alloc, pages)?;
-    Ok(Script::new(alloc, Rules::new(alloc), start))
+    let rules = SiteRules::new(Rules::read(alloc, b"co.uk")?, Vec::new(alloc));
+    Ok(Script::new(alloc, rules, start))
+}
+
+fn run_text(alloc: Global, policy: Policy, pages: &[&str]) -> Result<Vec<u8>, Fail> {
+    let history = run1(alloc, &script(alloc, pages)?)?;
+    Ok(text_of(alloc, policy, &history)?)
 }
 
 #[test]
 fn runs_of_start_pages(rt: HostRuntime) -> Result<(), Fail> {
     let alloc = rt.alloc();
-    let cases: [(&[&str], &str); 3] = [
+    let cases: [(&[&str], &str); 4] = [
         (&[], ""),
         (
             &["https://a.com/"],
             "open 0
 order 0 0 https://a.com https://a.com https://a.com/
 commit 0 0 https://a.com 68747470733a2f2f612e636f6d2f => ok
+",
+        ),
+        (
+            &["https://www.shop.co.uk/"],
+            "open 0
+order 0 0 https://shop.co.uk https://www.shop.co.uk https://www.shop.co.uk/
+commit 0 0 https://www.shop.co.uk 68747470733a2f2f7777772e73686f702e636f2e756b2f => ok
 ",
         ),
         (
@@ -65,10 +69,18 @@ commit 1 1 https://a.com 68747470733a2f2f612e636f6d2f => ok
         ),
     ];
     for (pages, text) in cases {
-        let history = run1(alloc, &script(alloc, pages)?)?;
-        let written = text_of(alloc, &history)?;
+        let written = run_text(alloc, Policy::One, pages)?;
         assert_eq!(rt; written.as_slice(), text.as_bytes());
     }
+    Ok(())
+}
+
+#[test]
+fn a_text_of_the_second_policy_has_its_version_line(rt: HostRuntime) -> Result<(), Fail> {
+    let empty = run_text(rt.alloc(), Policy::Two, &[])?;
+    assert_eq!(rt; empty.as_slice(), b"history 2\n");
+    let page = run_text(rt.alloc(), Policy::Two, &["https://a.com/"])?;
+    assert!(rt; page.starts_with(b"history 2\nopen 0\norder 0 0 "));
     Ok(())
 }
 

@@ -5,13 +5,8 @@ ghost use Rattle.std.specs.Option.{option_copied, option_to_list};
 ghost use Rattle.script_model.specs.Processes as processes;
 
 use crate::entry;
+use script_model::limits::{MAX_LIVE_PROCESSES, MAX_STARTED_PROCESSES};
 use script_model::{Entry, Site};
-
-/// How many processes may be live at a time.
-const MAX_LIVE: u64 = 64;
-
-/// How many processes may be started in all.
-const MAX_STARTED: u64 = 1024;
 
 /// The site to which a process is locked.
 #[tactic(auto, unfolding(script_model::specs::Processes::lock_of))]
@@ -75,7 +70,8 @@ pub fn live_count(entries: &[Entry]) -> u64
 pub fn may_start(entries: &[Entry]) -> bool
     ensures { result ≡ processes.may_start entries.now }
 {
-    started(entries) < MAX_STARTED && live_count(entries) < MAX_LIVE
+    started(entries) < u64::from(MAX_STARTED_PROCESSES)
+        && live_count(entries) < u64::from(MAX_LIVE_PROCESSES)
 }
 
 /// The process for a navigation, if there is one.

@@ -6,21 +6,18 @@ use crate::{
     opened, order_of, started, url_of, was_answered, was_ordered,
 };
 use script_model::{
-    Entry, Origin, PageUrls, RawUrl, Reply, Rules, Script, UrlClass, UrlText, page_url,
-    site_of_origin,
+    Entry, Origin, PageUrls, RawUrl, Reply, Rules, Script, SiteRules, UrlText, site_of_origin,
 };
 use std::alloc::Global;
 use std::test::Fail;
+use test_support::web_url;
 
 fn script(alloc: Global) -> Result<Script, Fail>
     ensures { IfOk result (λ script. starts script ≡ 1) }
 {
-    let page = page_url(alloc, "https://a.com/")?;
-    if page.class() != UrlClass::Web {
-        return Err(Fail::new("no page of the web"));
-    }
-    let start = PageUrls::from_vec(vec![in alloc; page]?);
-    Ok(Script::new(alloc, Rules::new(alloc), start))
+    let start = PageUrls::from_vec(vec![in alloc; web_url(alloc, "https://a.com/")?]?);
+    let rules = SiteRules::new(Rules::new(alloc), Vec::new(alloc));
+    Ok(Script::new(alloc, rules, start))
 }
 
 fn order(alloc: Global, script: &Script) -> Result<Entry, Fail>

@@ -31,14 +31,14 @@ neither (Some v) bytes h = h
 neither None bytes h = refl
 
 -- the verdict on a case by its early rows, and else by the bytes
-by_early : (case : Case) (bytes : List ℕ) (ended : Bool) → verdict_on case bytes ended ≡ option_or (early_verdict case.rules case.origin case.chain case.mode case.head) (bytes_verdict (kind_of case.head.fields) bytes ended)
-by_early case bytes ended = verdict_by_early case.rules case.origin case.chain case.mode case.head bytes ended
+by_early : (case : Case) (bytes : List ℕ) (ended : Bool) → verdict_on case bytes ended ≡ option_or (early_verdict case.policy case.rules case.origin case.chain case.mode case.head) (bytes_verdict (kind_of case.head.fields) bytes ended)
+by_early case bytes ended = verdict_by_early case.policy case.rules case.origin case.chain case.mode case.head bytes ended
 
 -- a ruling that is settled stays
 pub ruling_stays : (case : Case) (bytes more : List ℕ) (ended : Bool) (v : Verdict) → ruling_of (verdict_on case bytes false) ≡ Settled v → ruling_of (verdict_on case (bytes ++ more) ended) ≡ Settled v
 ruling_stays case bytes more ended v h =
     ap ruling_of
-    (verdict_stays case.rules case.origin case.chain case.mode case.head bytes more ended v (settled_by (verdict_on case bytes false) v h))
+    (verdict_stays case.policy case.rules case.origin case.chain case.mode case.head bytes more ended v (settled_by (verdict_on case bytes false) v h))
 
 -- where it is settled, more bytes and the end change nothing
 pub HasJudged-settled : (judge : Judge) (case : Case) (bytes more : List ℕ) (ended : Bool) (v : Verdict) → judge.ruling ≡ Settled v → HasJudged judge case bytes false → HasJudged judge case (bytes ++ more) ended
@@ -61,7 +61,7 @@ settled_by_answer kind (answers.Confirmed sniffed) other = λ more. cc
 settled_by_answer kind answers.Clear other = λ more. cc
 settled_by_answer kind answers.More other = λ more. other refl
 
-ruling_read : (case : Case) (kind : Kind) (list : List ℕ) (ended : Bool) (answer : Answer) → early_verdict case.rules case.origin case.chain case.mode case.head ≡ None → kind ≡ kind_of case.head.fields → answer ≡ answer_of (sniff_kind kind) list ended → ruling_of (sniffed_verdict kind answer) ≡ ruling_of (verdict_on case list ended)
+ruling_read : (case : Case) (kind : Kind) (list : List ℕ) (ended : Bool) (answer : Answer) → early_verdict case.policy case.rules case.origin case.chain case.mode case.head ≡ None → kind ≡ kind_of case.head.fields → answer ≡ answer_of (sniff_kind kind) list ended → ruling_of (sniffed_verdict kind answer) ≡ ruling_of (verdict_on case list ended)
 unfolding bytes_verdict
 ruling_read case kind list ended answer none is said =
     ap ruling_of
@@ -82,7 +82,7 @@ HasJudged-read old new case bytes list ended answer unsettled judged said same_r
     }
 
 -- a judge that was fed nothing
-pub HasJudged-new : (judge : Judge) (case : Case) (early : Option Verdict) (answer : Answer) → judge.request ≡ case.request → judge.kind ≡ kind_of case.head.fields → early ≡ early_verdict case.rules case.origin case.chain case.mode case.head → answer ≡ answer_of (sniff_kind judge.kind) [] false → judge.ruling ≡ ruling_of (option_or early (sniffed_verdict judge.kind answer)) → HasRead judge.sniffer (sniff_kind judge.kind) [] → HasJudged judge case [] false
+pub HasJudged-new : (judge : Judge) (case : Case) (early : Option Verdict) (answer : Answer) → judge.request ≡ case.request → judge.kind ≡ kind_of case.head.fields → early ≡ early_verdict case.policy case.rules case.origin case.chain case.mode case.head → answer ≡ answer_of (sniff_kind judge.kind) [] false → judge.ruling ≡ ruling_of (option_or early (sniffed_verdict judge.kind answer)) → HasRead judge.sniffer (sniff_kind judge.kind) [] → HasJudged judge case [] false
 unfolding bytes_verdict
 HasJudged-new judge case early answer same_request same_kind is said told reads = record {
   request = same_request;
@@ -91,8 +91,8 @@ HasJudged-new judge case early answer same_request same_kind is said told reads 
       told
       ∙ ap ruling_of
       (ap (λ e. option_or e (sniffed_verdict judge.kind answer)) is
-      ∙ ap (λ a. option_or (early_verdict case.rules case.origin case.chain case.mode case.head) (sniffed_verdict judge.kind a)) said
-      ∙ ap (λ k. option_or (early_verdict case.rules case.origin case.chain case.mode case.head) (sniffed_verdict k (answer_of (sniff_kind k) [] false))) same_kind
+      ∙ ap (λ a. option_or (early_verdict case.policy case.rules case.origin case.chain case.mode case.head) (sniffed_verdict judge.kind a)) said
+      ∙ ap (λ k. option_or (early_verdict case.policy case.rules case.origin case.chain case.mode case.head) (sniffed_verdict k (answer_of (sniff_kind k) [] false))) same_kind
       ∙ sym (by_early case [] false));
   sniffer = λ more. reads;
 }
@@ -113,6 +113,6 @@ owns_either (Some v) bytes first second = first
 owns_either None bytes first second = second
 
 -- what a new judge holds has its own rule
-pub owned_new : (case : Case) (early : Option Verdict) (kind : Kind) (answer : Answer) → early ≡ early_verdict case.rules case.origin case.chain case.mode case.head → has_own_rule (ruling_of (option_or early (sniffed_verdict kind answer))) ≡ true
+pub owned_new : (case : Case) (early : Option Verdict) (kind : Kind) (answer : Answer) → early ≡ early_verdict case.policy case.rules case.origin case.chain case.mode case.head → has_own_rule (ruling_of (option_or early (sniffed_verdict kind answer))) ≡ true
 owned_new case early kind answer is =
-    owned _ (owns_either early _ (ap owns is ∙ owns_early case.rules case.origin case.chain case.mode case.head) (owns_sniffed kind answer))
+    owned _ (owns_either early _ (ap owns is ∙ owns_early case.policy case.rules case.origin case.chain case.mode case.head) (owns_sniffed kind answer))

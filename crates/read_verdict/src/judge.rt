@@ -5,8 +5,8 @@ use crate::cleared::Cleared;
 use crate::ruling::{Ruling, ruling_of};
 use corb_sniff::{Answer, Sniffer};
 use script_model::{
-    Head, Kind, Mode, NoMemory, Origin, PageUrl, Rules, Verdict, early_verdict, kind_of,
-    sniff_kind, sniffed_verdict,
+    Head, Kind, Mode, NoMemory, Origin, PageUrl, Policy, SiteRules, Verdict, early_verdict,
+    kind_of, sniff_kind, sniffed_verdict,
 };
 use std::alloc::Global;
 
@@ -38,7 +38,8 @@ impl Judge {
     /// no byte decide, it is settled. Each URL of the chain is of class `UrlClass::Web`.
     pub fn new(
         alloc: Global,
-        rules: &Rules,
+        rules: &SiteRules,
+        policy: Policy,
         request: u32,
         origin: &Origin,
         chain: &[PageUrl],
@@ -48,6 +49,7 @@ impl Judge {
         requires { IsWebChain chain.now }
         ensures { IfOk result (λ judge. HasJudged judge (record {
           rules = rules.now;
+          policy = policy;
           request = request;
           origin = origin.now;
           chain = chain.now;
@@ -55,7 +57,7 @@ impl Judge {
           head = head.now;
         }) [] false) }
     {
-        let early = early_verdict(alloc, rules, origin, chain, mode, head)?;
+        let early = early_verdict(alloc, rules, policy, origin, chain, mode, head)?;
         let kind = kind_of(&head.fields);
         let mut sniffer = Sniffer::new(sniff_kind(kind));
         let answer = sniffer.feed(b"");

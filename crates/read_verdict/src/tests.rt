@@ -5,8 +5,8 @@ ghost use Rattle.cors_check.specs.Chains.{IsWebChain};
 use crate::{Cleared, Judge, Ruling};
 use http_header::{HeaderMap, HeaderName};
 use script_model::{
-    FieldText, Head, Mode, Origin, PageUrl, Rule, Rules, StatusCode, UrlClass, Verdict, page_url,
-    plain_verdict, tuple_of,
+    FieldText, Head, Mode, Origin, PageUrl, Policy, Rule, Rules, SiteRules, StatusCode, UrlClass,
+    Verdict, page_url, plain_verdict, tuple_of,
 };
 use std::alloc::Global;
 use std::process::Abort;
@@ -186,10 +186,19 @@ fn judge(
     mode: Mode,
     head: &Head,
 ) -> Result<Judge, Fail> {
-    let rules = Rules::new(alloc);
+    let rules = SiteRules::new(Rules::new(alloc), Vec::new(alloc));
     let origin = tuple(rt, alloc)?;
     let chain = chain(rt, alloc, urls)?;
-    let judge = Judge::new(alloc, &rules, REQUEST, &origin, &chain, mode, head)?;
+    let judge = Judge::new(
+        alloc,
+        &rules,
+        Policy::Two,
+        REQUEST,
+        &origin,
+        &chain,
+        mode,
+        head,
+    )?;
     Ok(judge)
 }
 
@@ -200,11 +209,21 @@ fn of_another_site(rt: &impl Abort, alloc: Global, head: &Head) -> Result<Judge,
 
 /// The verdict of the plain program on such a response, whole.
 fn plain(rt: &impl Abort, alloc: Global, head: &Head, body: &[u8]) -> Result<Ruling, Fail> {
-    let rules = Rules::new(alloc);
+    let rules = SiteRules::new(Rules::new(alloc), Vec::new(alloc));
     let origin = tuple(rt, alloc)?;
     let chain = chain(rt, alloc, &["https://b.com/x"])?;
     let mode = Mode::NoCors;
-    match plain_verdict(alloc, &rules, &origin, &chain, mode, head, body, true)? {
+    match plain_verdict(
+        alloc,
+        &rules,
+        Policy::Two,
+        &origin,
+        &chain,
+        mode,
+        head,
+        body,
+        true,
+    )? {
         Some(verdict) => Ok(Ruling::Settled(verdict)),
         None => Ok(Ruling::More),
     }

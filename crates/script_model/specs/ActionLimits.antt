@@ -9,19 +9,20 @@ use Rattle.script_model.specs.declared.action.Action.{Action}
 use Rattle.script_model.specs.declared.action.Action.TheVariants as actions
 use Rattle.script_model.specs.declared.action.RawBody.{RawBody}
 use Rattle.script_model.specs.declared.action.RawBody.TheVariants as forged
+use Rattle.script_model.specs.declared.limits.TheConstants.{MAX_SERVICE_NAME, MAX_SHORT_TEXT, MAX_URL_INPUT}
 
 -- the text of a URL: at most 4,096 bytes. It need not be one that can be read
 abbrev pub IsUrlInput : List ℕ → Type 0
-IsUrlInput text = length text ≤ 4096
+IsUrlInput text = length text ≤ MAX_URL_INPUT
 
 -- the text of a post or of a request to a service: at most 1,024 bytes
 abbrev pub IsShortText : List ℕ → Type 0
-IsShortText text = length text ≤ 1024
+IsShortText text = length text ≤ MAX_SHORT_TEXT
 
 -- the name of a service: 1 to 32 bytes
 pub record IsServiceName (name : List ℕ) : Type 0 where
   pub some : 1 ≤ length name
-  pub short : length name ≤ 32
+  pub short : length name ≤ MAX_SERVICE_NAME
 
 -- where a frame's first document comes from: a URL's text, or a resource
 abbrev pub IsSource : Src → Type 0

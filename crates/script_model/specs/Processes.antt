@@ -1,10 +1,12 @@
 -- The processes of a history, and the choice of one for a navigation. Own rules, after Chromium's process model.
--- A process is started by its first order, which locks it to the order's site. No kind of entry that is built ends one.
+-- A process is started by an order to it, and locked to the site of its orders, which are all of one site in a legal history.
+-- No kind of entry that is built ends one.
 use Rattle.std.specs.List.{range_with_len}
 use Rattle.std.specs.Prelude.{◌&&◌, if◌then◌else◌, Bool, List, None, Option, Some, count_by, filter_map, fold, is_some, max, nat_lt, ℕ}
 use Rattle.page_origin.specs.declared.site.Site.{Site}
 use Rattle.history_entry.specs.declared.entry.Entry.{Entry}
 use Rattle.script_model.specs.Entries.{last_match, lock_in, started_by}
+use Rattle.script_model.specs.declared.limits.TheConstants.{MAX_LIVE_PROCESSES, MAX_STARTED_PROCESSES}
 
 -- the site to which a process is locked
 unfoldable pub lock_of : List Entry → ℕ → Option Site
@@ -28,8 +30,9 @@ live_count h = count_by (is_locked h) (processes h)
 
 -- one more process may start: fewer than 64 are live, and fewer than 1,024 were started
 unfoldable pub may_start : List Entry → Bool
-may_start h = nat_lt (live_count h) 64 && nat_lt (started h) 1024
+may_start h = nat_lt (live_count h) MAX_LIVE_PROCESSES && nat_lt (started h) MAX_STARTED_PROCESSES
 
--- the process for a navigation: the next number, where one more may start. No page shares one with another, since each start page has a group of its own
+-- the process for a navigation: the next number, where one more may start. The soft limit is not asked yet: scripts with a second
+-- start page are not run
 unfoldable pub choice : List Entry → Option ℕ
 choice h = if may_start h then Some (started h) else None

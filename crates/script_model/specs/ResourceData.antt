@@ -9,6 +9,7 @@ use Rattle.page_origin.specs.declared.class.UrlClass.{UrlClass}
 use Rattle.page_origin.specs.declared.class.UrlClass.TheVariants.{AboutBlank, AboutSrcdoc, DataUrl, Foreign, Web}
 use Rattle.script_model.specs.ActionLimits.{IsAction}
 use Rattle.script_model.specs.declared.action.Action.{Action}
+use Rattle.script_model.specs.declared.limits.TheConstants.{MAX_ACTIONS, MAX_BODY, MAX_CUTS, MAX_HEADERS, MAX_HEADER_NAME, MAX_HEADER_VALUE}
 
 -- a resource: its URL, its response, where its body is cut and after how many bytes it breaks off, and what its documents do
 pub record ResourceData : Type 0 where
@@ -44,17 +45,17 @@ is_resource_class Foreign = false
 
 -- a header: a name of at most 64 bytes, each value of at most 1,024
 pub record IsHeader (header : List ℕ × List (List ℕ)) : Type 0 where
-  pub name : length header.0 ≤ 64
-  pub values : All (λ value. length value ≤ 1024) header.1
+  pub name : length header.0 ≤ MAX_HEADER_NAME
+  pub values : All (λ value. length value ≤ MAX_HEADER_VALUE) header.1
 
 -- the header fields of a response: at most 64 values in all
 pub record IsHeaders (fields : Entries (List ℕ)) : Type 0 where
-  pub few : value_count fields ≤ 64
+  pub few : value_count fields ≤ MAX_HEADERS
   pub short : All IsHeader fields
 
 -- cuts of a body of so many bytes: at most 63, each before the next, each within the body
 pub record IsCuts (size : ℕ) (cuts : List ℕ) : Type 0 where
-  pub few : length cuts ≤ 63
+  pub few : length cuts ≤ MAX_CUTS
   pub rising : IsStrictlyIncreasing cuts
   pub within : All (λ cut. (0 < cut) × (cut < size)) cuts
 
@@ -69,8 +70,8 @@ pub record IsResource (r : ResourceData) : Type 0 where
   pub lowest_status : 200 ≤ r.head.status
   pub highest_status : r.head.status ≤ 599
   pub headers : IsHeaders r.head.fields
-  pub short_body : length r.body ≤ 16384
+  pub short_body : length r.body ≤ MAX_BODY
   pub cuts : IsCuts (length r.body) r.cuts
   pub fault : IsFault (length r.body) r.fail_after
-  pub few_actions : length r.actions ≤ 64
+  pub few_actions : length r.actions ≤ MAX_ACTIONS
   pub actions : All IsAction r.actions

@@ -6,6 +6,7 @@ use Rattle.site_url.specs.Sites.{SiteRuleData}
 use Rattle.history_entry.specs.declared.policy.Policy.{Policy}
 use Rattle.script_model.specs.ActionLimits.{IsActionAmong}
 use Rattle.script_model.specs.ResourceData.{ResourceData}
+use Rattle.script_model.specs.declared.limits.TheConstants.{MAX_RESOURCES, MAX_SOFT_LIMIT, MAX_START_PAGES}
 
 -- a script: the policy of its verdicts, the rules of its sites, whether it keeps a spare process, from how many processes on
 -- they are shared, the URLs of its start pages, and its resources
@@ -32,9 +33,9 @@ find_resource s key = find (λ r. bytes_eq (resource_key r) key) s.resources
 -- what every script keeps: at most 64 start pages, each of class Web; at most 1,024 resources, no two with one key; and
 -- actions that name only resources that there are
 pub record IsScript (s : ScriptData) : Type 0 where
-  pub low_limit : s.soft_limit ≤ 64
-  pub few_pages : length s.start ≤ 64
+  pub low_limit : s.soft_limit ≤ MAX_SOFT_LIMIT
+  pub few_pages : length s.start ≤ MAX_START_PAGES
   pub web_pages : All (λ url. class_of url ≡ Web) s.start
-  pub few_resources : length s.resources ≤ 1024
+  pub few_resources : length s.resources ≤ MAX_RESOURCES
   pub distinct : AllPairs (λ a b. resource_key a ≢ resource_key b) s.resources
   pub among : All (λ r. All (IsActionAmong (length s.resources)) r.actions) s.resources

@@ -9,17 +9,21 @@ ghost use Rattle.cors_check.specs.Cors.{cors};
 ghost use Rattle.script_model.specs.Verdicts as verdicts;
 
 use crate::verdict::{Verdict, cors_verdict, is_protected, is_protected_or_plain};
-use cors_check::{Cors, check, compared_text};
-use history_entry::{Mode, Rule};
+use cors_check::{Cors, check, compared_text, is_same_origin_chain};
+use history_entry::{Mode, Policy, Rule};
 use http::StatusCode;
-use mime_kind::{Head, kind_of, nosniff};
+use mime_kind::{Head, ResourcePolicy, kind_of, nosniff, resource_policy};
 use page_origin::{NoMemory, Origin, PageUrl, UrlClass, tuple_of};
-use public_suffix::Rules;
-use site_url::same_site;
+use site_url::{SiteRules, same_site};
 use std::alloc::Global;
 
 /// Whether a URL of class `UrlClass::Web` has the site of an origin.
-fn has_site(alloc: Global, rules: &Rules, url: &PageUrl, origin: &Origin) -> Result<bool, NoMemory>
+fn has_site(
+    alloc: Global,
+    rules: &SiteRules,
+    url: &PageUrl,
+    origin: &Origin,
+) -> Result<bool, NoMemory>
     requires { class_of url.now ≡ UrlClass.Web }
     ensures { IfOk result (λ b. b ≡ equal_sites (site_of rules.now url.now) (site_of_origin rules.now origin.now)) }
 {
@@ -31,7 +35,7 @@ fn has_site(alloc: Global, rules: &Rules, url: &PageUrl, origin: &Origin) -> Res
 #[tactic(auto, unfolding(crate::specs::Verdicts::is_same_site_chain))]
 fn is_same_site_chain(
     alloc: Global,
-    rules: &Rules,
+    rules: &SiteRules,
     origin: &Origin,
     chain: &[PageUrl],
 ) -> Result<bool, NoMemory>
@@ -47,6 +51,43 @@ fn is_same_site_chain(
         }
     }
     Ok(true)
+}
+
+/// Whether a resource policy leaves out a request of an origin with a chain.
+fn leaves_out(
+    alloc: Global,
+    rules: &SiteRules,
+    origin: &Origin,
+    chain: &[PageUrl],
+    policy: ResourcePolicy,
+) -> Result<bool, NoMemory>
+    requires { IsWebChain chain.now }
+    ensures { IfOk result (λ b. b ≡ verdicts.leaves_out rules.now origin.now chain.now policy) }
+{
+    match policy {
+        ResourcePolicy::Any => Ok(false),
+        ResourcePolicy::SameOrigin => Ok(!is_same_origin_chain(origin, chain)),
+        ResourcePolicy::SameSite => Ok(!is_same_site_chain(alloc, rules, origin, chain)?),
+    }
+}
+
+/// Whether B8 applies: under the second policy, where the response's resource policy leaves out the request.
+#[tactic(auto, unfolding(crate::specs::Verdicts::is_left_out))]
+fn is_left_out(
+    alloc: Global,
+    rules: &SiteRules,
+    policy: Policy,
+    origin: &Origin,
+    chain: &[PageUrl],
+    head: &Head,
+) -> Result<bool, NoMemory>
+    requires { IsWebChain chain.now }
+    ensures { IfOk result (λ b. b ≡ verdicts.is_left_out policy rules.now origin.now chain.now head.now) }
+{
+    match policy {
+        Policy::One => Ok(false),
+        Policy::Two => leaves_out(alloc, rules, origin, chain, resource_policy(&head.fields)),
+    }
 }
 
 /// The CORS check of a response.
@@ -73,23 +114,25 @@ fn head_verdict(head: &Head) -> Option<Verdict>
     }
 }
 
-/// The verdict by the rows that need no byte of the body, A1, A2, B1, A3, B2 and B3, if one of them applies. It is then
-/// that of every body (`laws::a_verdict_is_early_or_by_bytes`). Each URL of the chain is of class
-/// `UrlClass::Web`.
+/// The verdict by the rows that need no byte of the body, A1, A2, B1, B8, A3, B2 and B3, if one of them applies. It is
+/// then that of every body (`laws::a_verdict_is_early_or_by_bytes`). Each URL of the chain is of class `UrlClass::Web`.
 #[tactic(auto, unfolding(crate::specs::Verdicts::early_verdict))]
 pub fn early_verdict(
     alloc: Global,
-    rules: &Rules,
+    rules: &SiteRules,
+    policy: Policy,
     origin: &Origin,
     chain: &[PageUrl],
     mode: Mode,
     head: &Head,
 ) -> Result<Option<Verdict>, NoMemory>
     requires { IsWebChain chain.now }
-    ensures { IfOk result (λ answer. answer ≡ verdicts.early_verdict rules.now origin.now chain.now mode head.now) }
+    ensures { IfOk result (λ answer. answer ≡ verdicts.early_verdict policy rules.now origin.now chain.now mode head.now) }
 {
     if mode == Mode::Cors {
         Ok(Some(cors_verdict(cors(alloc, origin, chain, head)?)))
+    } else if is_left_out(alloc, rules, policy, origin, chain, head)? {
+        Ok(Some(Verdict::Block(Rule::B8)))
     } else if is_same_site_chain(alloc, rules, origin, chain)? {
         Ok(Some(Verdict::Allow(Rule::A3)))
     } else {

@@ -8,6 +8,7 @@
 mod action;
 mod early;
 pub mod laws;
+pub mod limits;
 mod pages;
 mod plain;
 mod post;
@@ -17,18 +18,18 @@ mod service;
 mod verdict;
 
 pub use action::{Action, FrameRef, RawBody, RawMessage};
-pub use cors_check::Cors;
 pub use early::early_verdict;
 pub use history_entry::{
-    Body, EndHow, Entry, EntryKind, HopOf, LocalWhat, Message, Mode, PieceBytes, RawUrl, Reply,
-    RequestText, Rule, ServiceName, Src, Target, equal_entries,
+    Body, EndHow, Entry, EntryKind, HopOf, LocalWhat, Message, Mode, PieceBytes, Policy, RawUrl,
+    Reply, RequestText, Rule, ServiceName, Src, Target, equal_entries,
 };
 pub use http::StatusCode;
-pub use mime_kind::{FieldText, FieldTextError, Head, Kind, kind_of, nosniff};
+pub use mime_kind::{
+    FieldText, FieldTextError, Head, Kind, ResourcePolicy, kind_of, resource_policy,
+};
 pub use page_origin::{
-    HostText, NoMemory, OpaqueOrigin, Origin, OriginText, PageUrl, Scheme, Site, TupleOrigin,
-    UrlClass, UrlRefusal, UrlText, equal_origins, equal_sites, has_origin, join_url, origin_text,
-    page_url, same_origin, tuple_of,
+    HostText, NoMemory, OpaqueOrigin, Origin, PageUrl, Scheme, Site, TupleOrigin, UrlClass,
+    UrlRefusal, UrlText, has_origin, join_url, page_url, same_origin, same_tuple, tuple_of,
 };
 pub use pages::PageUrls;
 pub use plain::plain_verdict;
@@ -37,7 +38,7 @@ pub use public_suffix::{Rules, RulesRefusal};
 pub use resource::{Actions, Cuts, Resource, Resources};
 pub use script::{Script, find};
 pub use service::{Asked, ServiceAnswer};
-pub use site_url::{same_site, site_of, site_of_origin};
+pub use site_url::{SiteRules, same_site, site_of, site_of_origin};
 pub use verdict::{Verdict, sniff_kind, sniffed_verdict};
 
 #[cfg(test)]

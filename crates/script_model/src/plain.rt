@@ -6,10 +6,10 @@ ghost use Rattle.script_model.specs.Verdicts as verdicts;
 use crate::early::early_verdict;
 use crate::verdict::{Verdict, sniff_kind, sniffed_verdict};
 use corb_sniff::{Answer, SniffKind, Sniffer};
-use history_entry::Mode;
+use history_entry::{Mode, Policy};
 use mime_kind::{Head, Kind, kind_of};
 use page_origin::{NoMemory, Origin, PageUrl};
-use public_suffix::Rules;
+use site_url::SiteRules;
 use std::alloc::Global;
 
 /// The sniffer's answer on a whole list.
@@ -34,7 +34,8 @@ fn bytes_verdict(kind: Kind, bytes: &[u8], ended: bool) -> Option<Verdict>
 #[tactic(auto, using(crate::proofs::Rows::verdict_by_early))]
 pub fn plain_verdict(
     alloc: Global,
-    rules: &Rules,
+    rules: &SiteRules,
+    policy: Policy,
     origin: &Origin,
     chain: &[PageUrl],
     mode: Mode,
@@ -43,9 +44,9 @@ pub fn plain_verdict(
     ended: bool,
 ) -> Result<Option<Verdict>, NoMemory>
     requires { IsWebChain chain.now }
-    ensures { IfOk result (λ answer. answer ≡ verdicts.verdict rules.now origin.now chain.now mode head.now bytes.now ended) }
+    ensures { IfOk result (λ answer. answer ≡ verdicts.verdict policy rules.now origin.now chain.now mode head.now bytes.now ended) }
 {
-    match early_verdict(alloc, rules, origin, chain, mode, head)? {
+    match early_verdict(alloc, rules, policy, origin, chain, mode, head)? {
         Some(verdict) => Ok(Some(verdict)),
         None => Ok(bytes_verdict(kind_of(&head.fields), bytes, ended)),
     }

@@ -2,22 +2,26 @@ ghost use Rattle.std.specs.Prelude.{◌≡◌, ◌≤◌, ◌<◌, All, [], fals
 ghost use Rattle.std.specs.Option.{option_copied};
 ghost use Rattle.page_origin.specs.PageUrls.{class_of};
 ghost use Rattle.script_model.specs.ScriptData.{starts, find_resource};
+ghost use Rattle.script_model.specs.declared.limits.TheConstants.{MAX_SOFT_LIMIT, MAX_START_PAGES};
 
+use crate::limits::MAX_SOFT_LIMIT;
 use crate::pages::PageUrls;
 use crate::resource::{Resource, Resources};
+use history_entry::Policy;
 use page_origin::{PageUrl, UrlClass};
-use public_suffix::Rules;
+use site_url::SiteRules;
 use std::alloc::Global;
 use std::marker::Model;
 
-/// What a browser is to do: the pages that it opens, the resources that there are, and the suffix rules by which it tells
-/// sites apart.
+/// What a browser is to do: the pages that it opens, the resources that there are, the rules by which it tells sites
+/// apart, and the policy of its verdicts.
 ///
 /// There are at most 64 start pages, each of class Web, and at most 1,024 resources, no two at one URL but for its fragment.
 /// The actions of these name only resources that there are.
 #[derive(Drop)]
 pub struct Script {
-    pub rules: Rules,
+    pub policy: Policy,
+    pub rules: SiteRules,
     /// Whether a process is kept ready before a page needs it.
     pub spare: bool,
     /// From how many live processes on, up to 64, pages of one site share a process.
@@ -31,23 +35,24 @@ impl Model for Script {
 
     ghost Value = { ScriptData };
 
-    ghost view = { λ s. record { rules = s.rules; spare = s.spare; soft_limit = s.soft_limit; start = s.start; resources = s.resources } };
+    ghost view = { λ s. record { policy = s.policy; rules = s.rules; spare = s.spare; soft_limit = s.soft_limit; start = s.start; resources = s.resources } };
 
-    ghost invariant = { λ s. IsScript (record { rules = s.rules; spare = s.spare; soft_limit = s.soft_limit; start = s.start; resources = s.resources }) };
+    ghost invariant = { λ s. IsScript (record { policy = s.policy; rules = s.rules; spare = s.spare; soft_limit = s.soft_limit; start = s.start; resources = s.resources }) };
 }
 
 impl Script {
-    /// A script that opens these pages, with all else as where a script leaves it out: no spare process, 64 as the soft
-    /// limit, and no resources.
-    pub fn new(alloc: Global, rules: Rules, start: PageUrls) -> Script
-        requires few { length start ≤ 64 }
+    /// A script that opens these pages, with all else as where a script leaves it out: the second policy, no spare
+    /// process, 64 as the soft limit, and no resources.
+    pub fn new(alloc: Global, rules: SiteRules, start: PageUrls) -> Script
+        requires few { length start ≤ MAX_START_PAGES }
         requires web { All (λ url. class_of url ≡ UrlClass.Web) start }
-        ensures { result ≡ record { rules = rules; spare = false; soft_limit = 64; start = start; resources = [] } }
+        ensures { result ≡ record { policy = Policy.Two; rules = rules; spare = false; soft_limit = MAX_SOFT_LIMIT; start = start; resources = [] } }
     {
         Script {
+            policy: Policy::Two,
             rules,
             spare: false,
-            soft_limit: 64,
+            soft_limit: MAX_SOFT_LIMIT,
             start,
             resources: Resources::from_vec(Vec::new(alloc)),
         }
@@ -56,7 +61,7 @@ impl Script {
     /// How many start pages there are.
     pub fn start_count(&self) -> usize
         ensures count { result ≡ starts self.now }
-        ensures few { starts self.now ≤ 64 }
+        ensures few { starts self.now ≤ MAX_START_PAGES }
     {
         self.start.as_slice().len()
     }

@@ -1,24 +1,12 @@
-ghost use Rattle.std.specs.Prelude.{◌≡◌, IfOk, true};
-ghost use Rattle.page_origin.specs.PageUrls.{class_of};
-
-use crate::{PageUrl, PageUrls, Resource, Resources, Rules, Script, UrlClass, find, page_url};
+use crate::{PageUrls, Policy, Resource, Resources, Rules, Script, SiteRules, find};
 use std::alloc::Global;
 use std::test::Fail;
-
-fn web_page(alloc: Global, text: &str) -> Result<PageUrl, Fail>
-    ensures { IfOk result (λ url. class_of url ≡ UrlClass.Web) }
-{
-    let url = page_url(alloc, text)?;
-    if url.class() != UrlClass::Web {
-        return Err(Fail::new("no page of the web"));
-    }
-    Ok(url)
-}
+use test_support::web_url;
 
 fn script(alloc: Global) -> Result<Script, Fail> {
-    let start = vec![in alloc; web_page(alloc, "https://a.com/")?]?;
+    let start = vec![in alloc; web_url(alloc, "https://a.com/")?]?;
     let start = PageUrls::from_vec(start);
-    let rules = Rules::new(alloc);
+    let rules = SiteRules::new(Rules::new(alloc), Vec::new(alloc));
     Ok(Script::new(alloc, rules, start))
 }
 
@@ -26,6 +14,7 @@ fn script(alloc: Global) -> Result<Script, Fail> {
 fn a_script_lends_what_it_was_made_of(rt: HostRuntime) -> Result<(), Fail> {
     let script = script(rt.alloc())?;
     assert_eq!(rt; script.start_count(), 1);
+    assert!(rt; script.policy == Policy::Two);
     assert!(rt; !script.spare && script.soft_limit == 64);
     assert_eq!(rt;
         script.start.get(0).map(|url| url.text()),
@@ -40,7 +29,7 @@ fn a_script_lends_what_it_was_made_of(rt: HostRuntime) -> Result<(), Fail> {
 fn a_resource_is_found_without_its_fragment(rt: HostRuntime) -> Result<(), Fail> {
     let alloc = rt.alloc();
     let mut script = script(alloc)?;
-    let resource = Resource::new(alloc, web_page(alloc, "https://b.org/#top")?);
+    let resource = Resource::new(alloc, web_url(alloc, "https://b.org/#top")?);
     assert_eq!(rt; resource.head.status.as_u16(), 200);
     assert_eq!(rt; resource.body.len(), 0);
     assert!(rt; !resource.fails_at_once());

@@ -16,7 +16,7 @@ pub enum Verdict {
 }
 
 /// Whether a kind is protected: what pages of other sites are not to read.
-pub fn is_protected(kind: Kind) -> bool
+pub(crate) fn is_protected(kind: Kind) -> bool
     ensures { result ≡ verdicts.is_protected kind }
 {
     match kind {
@@ -36,7 +36,7 @@ pub(crate) fn is_protected_or_plain(kind: Kind) -> bool
 }
 
 /// The verdict of the CORS check, A1, A2 or B1.
-pub fn cors_verdict(answer: Cors) -> Verdict
+pub(crate) fn cors_verdict(answer: Cors) -> Verdict
     ensures { result ≡ verdicts.cors_verdict answer }
 {
     match answer {

@@ -3,8 +3,8 @@ ghost use Rattle.page_origin.specs.PageUrls.{class_of};
 ghost use Rattle.cors_check.specs.Chains.{IsWebChain};
 
 use crate::{
-    FieldText, Head, Mode, OpaqueOrigin, Origin, PageUrl, Rule, Rules, Site, StatusCode, UrlClass,
-    Verdict, page_url, plain_verdict, tuple_of,
+    FieldText, Head, Mode, OpaqueOrigin, Origin, PageUrl, Policy, Rule, Rules, Site, SiteRules,
+    StatusCode, UrlClass, Verdict, page_url, plain_verdict, tuple_of,
 };
 use http_header::{HeaderMap, HeaderName};
 use std::alloc::Global;
@@ -147,6 +147,7 @@ fn opaque(rt: &impl Abort, alloc: Global) -> Result<Origin, Fail> {
     let precursor = Site {
         scheme: tuple.scheme,
         host: tuple.host,
+        only: None,
     };
     Ok(Origin::Opaque(OpaqueOrigin {
         document: 1,
@@ -195,12 +196,13 @@ fn of_another_site(
     body: &[u8],
     ended: bool,
 ) -> Result<Option<Verdict>, Fail> {
-    let rules = Rules::new(alloc);
+    let rules = SiteRules::new(Rules::new(alloc), Vec::new(alloc));
     let origin = tuple(rt, alloc)?;
     let chain = chain(rt, alloc, &["https://b.com/x"])?;
     let verdict = plain_verdict(
         alloc,
         &rules,
+        Policy::Two,
         &origin,
         &chain,
         Mode::NoCors,
@@ -220,10 +222,20 @@ fn of_a_page(
     mode: Mode,
     allowed: &[&str],
 ) -> Result<Option<Verdict>, Fail> {
-    let rules = Rules::new(alloc);
+    let rules = SiteRules::new(Rules::new(alloc), Vec::new(alloc));
     let chain = chain(rt, alloc, urls)?;
     let head = allowing(alloc, allowed)?;
-    let verdict = plain_verdict(alloc, &rules, origin, &chain, mode, &head, b"<p", false)?;
+    let verdict = plain_verdict(
+        alloc,
+        &rules,
+        Policy::Two,
+        origin,
+        &chain,
+        mode,
+        &head,
+        b"<p",
+        false,
+    )?;
     Ok(verdict)
 }
 

@@ -57,13 +57,23 @@ const ISOLATED: &[&str] = &[
 
 const ISOLATED_SITES: &[(&str, Scheme, &str, Option<u16>)] = &[
     ("https://pay.a.com/x", Scheme::Https, "pay.a.com", Some(443)),
-    ("https://pay.a.com:8443/x", Scheme::Https, "pay.a.com", Some(8443)),
+    (
+        "https://pay.a.com:8443/x",
+        Scheme::Https,
+        "pay.a.com",
+        Some(8443),
+    ),
     ("https://pay.a.com:444/", Scheme::Https, "a.com", None),
     ("http://pay.a.com/", Scheme::Http, "a.com", None),
     ("http://pay.a.com:443/", Scheme::Http, "a.com", None),
     ("https://sub.pay.a.com/", Scheme::Https, "a.com", None),
     ("https://a.com/", Scheme::Https, "a.com", None),
-    ("http://127.0.0.1:8080/", Scheme::Http, "127.0.0.1", Some(8080)),
+    (
+        "http://127.0.0.1:8080/",
+        Scheme::Http,
+        "127.0.0.1",
+        Some(8080),
+    ),
     ("http://127.0.0.1/", Scheme::Http, "127.0.0.1", None),
     ("https://[::1]/", Scheme::Https, "[::1]", Some(443)),
     ("https://a.co.uk/", Scheme::Https, "a.co.uk", Some(443)),
@@ -117,13 +127,21 @@ const ISOLATED_PAIRS: &[(&str, &str, bool)] = &[
 #[test]
 fn same_isolated_sites(rt: HostRuntime) -> Result<(), Fail> {
     for (a, b, same) in ISOLATED_PAIRS {
-        assert!(rt; have_one_site(rt.alloc(), ISOLATED, a, b)? == *same, "{a} {b}");
+        assert!(rt;
+            have_one_site(rt.alloc(), ISOLATED, a, b)? == *same,
+            "{a} {b}"
+        );
     }
     Ok(())
 }
 
 /// The site of an opaque origin whose precursor has the whole host of a URL.
-fn is_own_precursor(alloc: Global, rules: &SiteRules, text: &str, only: Option<u16>) -> Result<bool, Fail> {
+fn is_own_precursor(
+    alloc: Global,
+    rules: &SiteRules,
+    text: &str,
+    only: Option<u16>,
+) -> Result<bool, Fail> {
     let opaque = opaque_origin(alloc, 3, text, only)?;
     let site = site_of_origin(alloc, rules, &opaque)?;
     Ok(is_site(&site, Scheme::Https, "www.a.com", only))
@@ -138,7 +156,13 @@ fn sites_of_opaque_origins(rt: HostRuntime) -> Result<(), Fail> {
     Ok(())
 }
 
-fn is_one_site(alloc: Global, rules: &SiteRules, tuple: &str, precursor: &str, only: Option<u16>) -> Result<bool, Fail> {
+fn is_one_site(
+    alloc: Global,
+    rules: &SiteRules,
+    tuple: &str,
+    precursor: &str,
+    only: Option<u16>,
+) -> Result<bool, Fail> {
     let tuple: Origin = origin(alloc, tuple)?;
     let opaque = opaque_origin(alloc, 3, precursor, only)?;
     Ok(same_site(rules, &tuple, &opaque))
@@ -149,7 +173,12 @@ const PRECURSORS: &[(&str, &str, Option<u16>, bool)] = &[
     ("https://www.a.com/", "https://www.a.com/", None, false),
     ("https://pay.a.com/", "https://pay.a.com/", Some(443), true),
     ("https://pay.a.com/", "https://pay.a.com/", None, false),
-    ("https://pay.a.com/", "https://pay.a.com/", Some(8443), false),
+    (
+        "https://pay.a.com/",
+        "https://pay.a.com/",
+        Some(8443),
+        false,
+    ),
 ];
 
 #[test]

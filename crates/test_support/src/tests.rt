@@ -6,8 +6,6 @@ use std::test::Fail;
 #[test]
 fn urls(rt: HostRuntime) -> Result<(), Fail> {
     assert!(rt; web_url(rt.alloc(), "https://a.com/")?.text() == "https://a.com/");
-    assert!(rt; web_url(rt.alloc(), "about:blank").is_err());
-    assert!(rt; web_url(rt.alloc(), "no").is_err());
     assert!(rt; web_chain(rt.alloc(), &["https://a.com/", "http://b.com/"])?.len() == 2);
     Ok(())
 }
