@@ -1,6 +1,5 @@
 -- Bodies, and where they are cut and break off.
-use Rattle.std.specs.Prelude.{ℕ, ◌-◌, ◌<◌, All, not, ◌&&◌, nat_le, nat_lt, List, [], length, slice_get, codes, unwrap_or, Result, Ok, Err, ⊤}
-use Rattle.std.specs.List.Sorted.{IsStrictlyIncreasing}
+use Rattle.std.specs.Prelude.{ℕ, ◌-◌, not, ◌&&◌, nat_le, nat_lt, List, [], length, slice_get, codes, unwrap_or, Result, Ok, Err, ⊤}
 use Rattle.serde_json.specs.Data.{Data}
 use Rattle.hex.specs.Hex.{decode_of}
 use Rattle.hex.specs.declared.error.FromHexError.{FromHexError}
@@ -42,11 +41,6 @@ last_cut cuts = unwrap_or (slice_get cuts (length cuts - 1)) 0
 -- a cut behind the one before it and before the end of a body of so many bytes, else X6
 unfoldable pub cut_at : ℕ → List ℕ → Data → Checked ℕ
 cut_at size before d = number_at d >>= λ cut. check (nat_lt (last_cut before) cut && nat_lt cut size) past_limit cut
-
--- cuts, each before the next, each within a body of so many bytes
-pub record AreCuts (size : ℕ) (cuts : List ℕ) : Type 0 where
-  pub rising : IsStrictlyIncreasing cuts
-  pub within : All (λ cut. (0 < cut) × (cut < size)) cuts
 
 -- at most 63 cuts
 abbrev pub cuts_at : ℕ → Data → Checked (List ℕ)

@@ -1,5 +1,5 @@
 -- Header fields of responses, as lists of a name and a value.
-use Rattle.std.specs.Prelude.{ℕ, ◌≤◌, Bool, ◌&&◌, nat_le, nat_lt, List, [], length, Ok, codes, if◌then◌else◌}
+use Rattle.std.specs.Prelude.{ℕ, Bool, ◌&&◌, nat_le, nat_lt, List, [], length, Ok, codes, if◌then◌else◌}
 use Rattle.std.specs.List.{list_all}
 use Rattle.serde_json.specs.Data.{Data, Items, no_items, item}
 use Rattle.serde_json.specs.Find.{as_array}
@@ -46,8 +46,3 @@ header_at d = typed (as_array d) >>= pair_of
 -- at most 64 headers, each appended to those before it
 unfoldable pub headers_at : Data → Checked (Entries (List ℕ))
 headers_at d = list_at (λ before. header_at) 64 d >>= λ headers. Ok (append_all [] headers)
-
--- a name and a value within their limits
-pub record IsShort (header : List ℕ × List ℕ) : Type 0 where
-  pub name : length header.0 ≤ 64
-  pub value : length header.1 ≤ 1024

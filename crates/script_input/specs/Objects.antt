@@ -50,11 +50,3 @@ read_optional read (Some d) = read d >>= λ x. Ok (Some x)
 -- what stands at a key that may be there
 unfoldable pub optional : {A : Type 0} → List ℕ → (Data → Checked A) → Data → Checked (Option A)
 optional key read d = below key (read_optional read (get key d))
-
-abbrev pub read_or : {A : Type 0} → (Data → Checked A) → A → Option Data → Checked A
-read_or read default None = Ok default
-read_or read default (Some d) = read d
-
--- what stands at a key, or the default where it is left out
-unfoldable pub or_default : {A : Type 0} → List ℕ → (Data → Checked A) → A → Data → Checked A
-or_default key read default d = below key (read_or read default (get key d))

@@ -10,7 +10,7 @@ use Rattle.script_input.specs.Refusals.{wrong_shape}
 use Rattle.script_input.specs.Values.{bool_at, object_number_at, service_name_at, short_text_at, string_at, url_input_at}
 use Rattle.script_input.specs.Objects.{object_at, optional, required}
 use Rattle.script_input.specs.Words.{mode_at}
-use Rattle.script_input.specs.Urls.{claim_at, target_at}
+use Rattle.script_input.specs.Urls.{target_at, tuple_at}
 use Rattle.script_input.specs.Frames.{one_source, source_at}
 
 unfoldable pub navigate_message : Data → Checked RawMessage
@@ -19,7 +19,7 @@ navigate_message d = do
   document ← optional (codes "document") object_number_at d
   frame ← required (codes "frame") object_number_at d
   url ← required (codes "url") url_input_at d
-  initiator ← optional (codes "initiator") claim_at d
+  initiator ← optional (codes "initiator") tuple_at d
   Ok (record { document = document; body = Navigate frame url initiator })
 
 unfoldable pub frame_message : ℕ → Data → Checked RawMessage
@@ -51,7 +51,7 @@ fetch_message d = do
   document ← optional (codes "document") object_number_at d
   url ← required (codes "url") url_input_at d
   mode ← required (codes "mode") mode_at d
-  initiator ← optional (codes "initiator") claim_at d
+  initiator ← optional (codes "initiator") tuple_at d
   Ok (record { document = document; body = Fetch url mode initiator })
 
 unfoldable pub post_message : Data → Checked RawMessage
@@ -60,7 +60,7 @@ post_message d = do
   document ← optional (codes "document") object_number_at d
   frame ← required (codes "frame") object_number_at d
   target ← required (codes "target") target_at d
-  source ← optional (codes "source") claim_at d
+  source ← optional (codes "source") tuple_at d
   text ← required (codes "text") short_text_at d
   Ok (record { document = document; body = Post frame target source text })
 
@@ -69,7 +69,7 @@ ask_message d = do
   _ ← object_at (codes "service" ∷ codes "request" ∷ []) (codes "is" ∷ codes "document" ∷ codes "service" ∷ codes "origin" ∷ codes "request" ∷ []) d
   document ← optional (codes "document") object_number_at d
   service ← required (codes "service") service_name_at d
-  origin ← optional (codes "origin") claim_at d
+  origin ← optional (codes "origin") tuple_at d
   request ← required (codes "request") short_text_at d
   Ok (record { document = document; body = Ask service origin request })
 
@@ -79,7 +79,7 @@ commit_message d = do
   document ← optional (codes "document") object_number_at d
   nav ← required (codes "nav") object_number_at d
   url ← required (codes "url") url_input_at d
-  origin ← required (codes "origin") claim_at d
+  origin ← required (codes "origin") tuple_at d
   Ok (record { document = document; body = Commit nav url origin })
 
 -- the row of a word; an unknown word is X2 at it

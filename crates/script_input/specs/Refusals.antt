@@ -1,5 +1,5 @@
 -- Refusals of scripts: a code, where it stands, and a line. Own format.
-use Rattle.std.specs.Prelude.{ℕ, List, [], ◌∷◌, ◌++◌}
+use Rattle.std.specs.Prelude.{ℕ, ◌==◌, List, [], ◌∷◌, ◌++◌, codes, decimal, length, if◌then◌else◌}
 use Rattle.script_input.specs.declared.refusal.Refusal.{Refusal}
 
 -- X1: the bytes are not JSON
@@ -41,3 +41,15 @@ rule_refusal line = record { code = bad_rule; path = []; line = line }
 -- the same refusal, seen from one step further up: `/` and the step stand before its path
 abbrev pub behind : List ℕ → Refusal → Refusal
 behind step r = record { code = r.code; path = 47 ∷ step ++ r.path; line = r.line }
+
+-- a path behind a space; nothing of an empty one
+abbrev pub path_part : List ℕ → List ℕ
+path_part path = if length path == 0 then [] else codes " " ++ path
+
+-- the number of a line; nothing of 0, which stands for none
+abbrev pub line_part : ℕ → List ℕ
+line_part line = if line == 0 then [] else codes " line " ++ decimal line
+
+-- how a refusal is spelled: `refused X2 /start/0`, `refused X4 line 3`, `refused X1`
+unfoldable pub refusal_text : Refusal → List ℕ
+refusal_text r = codes "refused X" ++ decimal r.code ++ path_part r.path ++ line_part r.line

@@ -1,10 +1,9 @@
 -- Resources. Own format.
-use Rattle.std.specs.Prelude.{◌≢◌, ◌≤◌, All, AllPairs, ℕ, Bool, not, List, [], ◌∷◌, bytes_eq, codes, length, unwrap_or, Ok}
+use Rattle.std.specs.Prelude.{ℕ, Bool, not, List, [], ◌∷◌, bytes_eq, codes, unwrap_or, Ok}
 use Rattle.std.specs.List.{list_any}
 use Rattle.serde_json.specs.Data.{Data}
 use Rattle.mime_kind.specs.declared.head.Head.{Head as ResponseHead}
 use Rattle.page_origin.specs.PageUrls.{class_of, key_of, page_url_of}
-use Rattle.script_model.specs.ActionLimits.{IsAction, IsActionAmong}
 use Rattle.script_model.specs.ResourceData.{ResourceData, is_resource_class}
 use Rattle.script_model.specs.ScriptData.{resource_key}
 use Rattle.script_model.specs.declared.action.Action.{Action}
@@ -18,17 +17,17 @@ use Rattle.script_input.specs.Headers.{headers_at}
 use Rattle.script_input.specs.Bodies.{delivery_in, one_body}
 use Rattle.script_input.specs.Actions.{action_at}
 
--- one of these resources has this key
-abbrev pub has_key : List ℕ → List ResourceData → Bool
-has_key key resources = list_any (λ r. bytes_eq (resource_key r) key) resources
+-- this is the key of one of these resources
+abbrev pub is_key_of : List ResourceData → List ℕ → Bool
+is_key_of resources key = list_any (λ r. bytes_eq (resource_key r) key) resources
 
--- the URL of a resource: of class Web, AboutBlank or DataUrl, else X3; not of the key of a resource before it, else X7
-unfoldable pub url_at : List ResourceData → Data → Checked (List ℕ)
-url_at before d = do
+-- the URL of a resource: of class Web, AboutBlank or DataUrl, else X3; of a key that is not taken, else X7
+unfoldable pub url_at : (List ℕ → Bool) → Data → Checked (List ℕ)
+url_at is_taken d = do
   text ← string_at d
   url ← url_of (page_url_of text)
   url ← check (is_resource_class (class_of url)) wrong_url url
-  check (not (has_key (key_of url) before)) same_key url
+  check (not (is_taken (key_of url))) same_key url
 
 -- the status and the header fields of a response: 200 and none where they are left out
 unfoldable pub head_in : Data → Checked ResponseHead
@@ -50,12 +49,12 @@ abbrev pub resource_keys : List (List ℕ)
 resource_keys =
     codes "url" ∷ codes "status" ∷ codes "headers" ∷ codes "body" ∷ codes "body_hex" ∷ codes "cuts" ∷ codes "fail_after" ∷ codes "actions" ∷ []
 
--- a resource, in a script of so many, with those before it
-unfoldable pub resource_at : ℕ → List ResourceData → Data → Checked ResourceData
-resource_at count before d = do
+-- a resource, in a script of so many, of a key that is not taken
+unfoldable pub resource_at : ℕ → (List ℕ → Bool) → Data → Checked ResourceData
+resource_at count is_taken d = do
   _ ← object_at (codes "url" ∷ []) resource_keys d
   _ ← one_body d
-  url ← required (codes "url") (url_at before) d
+  url ← required (codes "url") (url_at is_taken) d
   head ← head_in d
   delivery ← delivery_in d
   actions ← actions_in count d
@@ -68,21 +67,10 @@ resource_at count before d = do
     actions = actions;
   })
 
--- at most 1,024 resources
+-- at most 1,024 resources; to each the keys of those before it are taken
 unfoldable pub resources_at : Data → Checked (List ResourceData)
-resources_at d = list_at (resource_at (count_of d)) 1024 d
+resources_at d = list_at (λ before. resource_at (count_of d) (is_key_of before)) 1024 d
 
 -- the resources, none where they are left out
 unfoldable pub resources_in : Data → Checked (List ResourceData)
 resources_in d = optional (codes "resources") resources_at d >>= λ resources. Ok (unwrap_or resources [])
-
--- the actions of a resource, in a script of so many
-pub record AreActions (count : ℕ) (actions : List Action) : Type 0 where
-  pub few : length actions ≤ 64
-  pub each : All IsAction actions
-  pub among : All (IsActionAmong count) actions
-
--- resources of a script of so many: no two with one key, and with actions that name only resources that there are
-pub record AreResources (count : ℕ) (resources : List ResourceData) : Type 0 where
-  pub distinct : AllPairs (λ a b. resource_key a ≢ resource_key b) resources
-  pub among : All (λ r. All (IsActionAmong count) r.actions) resources

@@ -34,8 +34,8 @@ abbrev pub web_at : Data → Checked (List ℕ)
 web_at d = string_at d >>= web_of
 
 -- a URL of class Web, standing for its tuple origin
-unfoldable pub claim_at : Data → Checked TupleOrigin
-claim_at d = web_at d >>= λ url. Ok (tuple_of url)
+unfoldable pub tuple_at : Data → Checked TupleOrigin
+tuple_at d = web_at d >>= λ url. Ok (tuple_of url)
 
 -- a post to the tuple origin of a URL of class Web
 abbrev pub origin_target : List ℕ → Checked Target

@@ -15,13 +15,9 @@ use crate::value::{Integer, Reader};
 use bytes::Bytes;
 use hex::FromHexError;
 use script_model::Cuts;
+use script_model::limits::{MAX_BODY, MAX_CUTS};
 use serde_json::Value;
 use std::alloc::Global;
-
-/// The most bytes of a body.
-const MAX_BODY: usize = 16384;
-/// The most cuts of a body.
-const MAX_CUTS: usize = 63;
 
 /// `body` and `body_hex` are not both there.
 #[tactic(auto, unfolding(crate::specs::Bodies::one_body))]
@@ -124,10 +120,11 @@ impl ItemReader for CutOf {
     type Item = u32;
 
     ghost use Rattle.script_input.specs.Bodies as spec;
+    ghost use Rattle.script_input.specs.ForProofs.{AreCuts};
 
     ghost item_reading = { λ body. spec.cut_at body.size };
 
-    ghost listed = { λ body cuts. spec.AreCuts body.size cuts };
+    ghost listed = { λ body cuts. AreCuts body.size cuts };
 
     #[tactic(auto, using(crate::proofs::CutLimits::one_more_cut))]
     fn item(&self, alloc: Global, before: &[u32], value: &Value) -> Result<u32, ScriptStop> {

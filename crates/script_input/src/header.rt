@@ -9,7 +9,7 @@ ghost use Rattle.serde_json.specs.View.{view, items_view};
 ghost use Rattle.script_input.specs.Answers.{Gives};
 ghost use Rattle.script_input.specs.Checked.{check};
 ghost use Rattle.script_input.specs.Headers as spec;
-ghost use Rattle.script_input.specs.Headers.{IsShort};
+ghost use Rattle.script_input.specs.ForProofs.{IsShort};
 ghost use Rattle.script_input.specs.Refusals.{bad_header};
 
 use crate::list::{Each, list_at};
@@ -18,16 +18,10 @@ use crate::text::string_at;
 use crate::value::{Reader, below};
 use http_header::{HeaderMap, HeaderName, HeaderNameError};
 use mime_kind::stripped;
+use script_model::limits::{MAX_HEADER_NAME, MAX_HEADER_VALUE, MAX_HEADERS};
 use script_model::{FieldText, FieldTextError, NoMemory};
 use serde_json::Value;
 use std::alloc::Global;
-
-/// The most headers of a response.
-const MAX_HEADERS: usize = 64;
-/// The most bytes of a header's name.
-const MAX_NAME: usize = 64;
-/// The most bytes of a header's value.
-const MAX_VALUE: usize = 1024;
 
 /// A name of a header, in lower case, with a value.
 type Header = (HeaderName, FieldText);
@@ -48,7 +42,7 @@ fn name_at(alloc: Global, value: &Value) -> Result<HeaderName, ScriptStop>
     ensures short { IfOk result (λ name. length name ≤ 64) }
 {
     let text = string_at(alloc, value)?;
-    if text.len() > MAX_NAME {
+    if text.len() > MAX_HEADER_NAME {
         return Err(refused(alloc, BAD_HEADER));
     }
     name_of(alloc, text)
@@ -80,7 +74,7 @@ fn value_at(alloc: Global, value: &Value) -> Result<FieldText, ScriptStop>
 {
     let text = string_at(alloc, value)?;
     let bytes = stripped(text.as_bytes());
-    if bytes.len() > MAX_VALUE {
+    if bytes.len() > MAX_HEADER_VALUE {
         return Err(refused(alloc, PAST_LIMIT));
     }
     text_of(alloc, bytes)
@@ -103,16 +97,18 @@ fn pair_of(alloc: Global, items: &[Value]) -> Result<Header, ScriptStop>
 }
 
 /// A list of a name and a value.
+#[derive(Drop)]
 struct Pair;
 
 impl Reader for Pair {
     type Read = Header;
 
     ghost use Rattle.script_input.specs.Headers as spec;
+    ghost use Rattle.script_input.specs.ForProofs.{IsShort};
 
     ghost reading = { λ _. spec.header_at };
 
-    ghost keeps = { λ _ header. spec.IsShort header };
+    ghost keeps = { λ _ header. IsShort header };
 
     #[tactic(auto, unfolding(crate::specs::Headers::header_at))]
     fn read(&self, alloc: Global, value: &Value) -> Result<Header, ScriptStop> {

@@ -10,7 +10,7 @@ use crate::frame::{one_source, source_at};
 use crate::object::{object_at, optional, required, word_at};
 use crate::refusal::{ScriptStop, WRONG_SHAPE, behind, refused};
 use crate::text::{NameOfService, ShortText, UrlInput};
-use crate::urls::{Claim, PostTarget};
+use crate::urls::{PostTarget, TupleUrl};
 use crate::value::{Boolean, OBJECT_NUMBER, Reader};
 use crate::word::RequestMode;
 use script_model::{RawBody, RawMessage};
@@ -32,7 +32,7 @@ fn navigate_message(alloc: Global, value: &Value) -> Result<RawMessage, ScriptSt
     let document = optional(alloc, "document", &OBJECT_NUMBER, value)?;
     let frame = required(alloc, "frame", &OBJECT_NUMBER, value)?;
     let url = required(alloc, "url", &UrlInput, value)?;
-    let initiator = optional(alloc, "initiator", &Claim, value)?;
+    let initiator = optional(alloc, "initiator", &TupleUrl, value)?;
     let body = RawBody::Navigate {
         frame,
         url,
@@ -105,7 +105,7 @@ fn fetch_message(alloc: Global, value: &Value) -> Result<RawMessage, ScriptStop>
     let document = optional(alloc, "document", &OBJECT_NUMBER, value)?;
     let url = required(alloc, "url", &UrlInput, value)?;
     let mode = required(alloc, "mode", &RequestMode, value)?;
-    let initiator = optional(alloc, "initiator", &Claim, value)?;
+    let initiator = optional(alloc, "initiator", &TupleUrl, value)?;
     let body = RawBody::Fetch {
         url,
         mode,
@@ -129,7 +129,7 @@ fn post_message(alloc: Global, value: &Value) -> Result<RawMessage, ScriptStop>
     let document = optional(alloc, "document", &OBJECT_NUMBER, value)?;
     let frame = required(alloc, "frame", &OBJECT_NUMBER, value)?;
     let target = required(alloc, "target", &PostTarget, value)?;
-    let source = optional(alloc, "source", &Claim, value)?;
+    let source = optional(alloc, "source", &TupleUrl, value)?;
     let text = required(alloc, "text", &ShortText, value)?;
     let body = RawBody::Post {
         frame,
@@ -154,7 +154,7 @@ fn ask_message(alloc: Global, value: &Value) -> Result<RawMessage, ScriptStop>
     )?;
     let document = optional(alloc, "document", &OBJECT_NUMBER, value)?;
     let service = required(alloc, "service", &NameOfService, value)?;
-    let origin = optional(alloc, "origin", &Claim, value)?;
+    let origin = optional(alloc, "origin", &TupleUrl, value)?;
     let request = required(alloc, "request", &ShortText, value)?;
     let body = RawBody::Ask {
         service,
@@ -179,7 +179,7 @@ fn commit_message(alloc: Global, value: &Value) -> Result<RawMessage, ScriptStop
     let document = optional(alloc, "document", &OBJECT_NUMBER, value)?;
     let nav = required(alloc, "nav", &OBJECT_NUMBER, value)?;
     let url = required(alloc, "url", &UrlInput, value)?;
-    let origin = required(alloc, "origin", &Claim, value)?;
+    let origin = required(alloc, "origin", &TupleUrl, value)?;
     let body = RawBody::Commit { nav, url, origin };
     Ok(RawMessage { document, body })
 }

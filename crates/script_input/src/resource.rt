@@ -1,35 +1,33 @@
 //! Resources of a script.
 
-ghost use Rattle.std.specs.Prelude.{◌≡◌, ◌≤◌, All, IfOk, codes, false, length, true};
-ghost use Rattle.page_origin.specs.PageUrls.{class_of, key_of};
-ghost use Rattle.serde_json.specs.View.{view};
+ghost use Rattle.std.specs.Prelude.{◌≡◌, ◌≤◌, ◌||◌, All, IfOk, List, OnOk, [], bytes_eq, decimal, false, length, ℕ};
+ghost use Rattle.std.specs.HashSet.{contains_text};
+ghost use Rattle.serde_json.specs.View.{view, items_view};
 ghost use Rattle.script_model.specs.ActionLimits.{IsActionAmong};
 ghost use Rattle.script_model.specs.ResourceData.{IsHeaders, is_resource_class};
 ghost use Rattle.script_model.specs.ScriptData.{resource_key};
 ghost use Rattle.script_input.specs.Answers.{Gives, GivesBy};
-ghost use Rattle.script_input.specs.Objects.{required};
+ghost use Rattle.script_input.specs.Checked as checked;
+ghost use Rattle.script_input.specs.ForProofs.{AreActions, AreResources};
+ghost use Rattle.script_input.specs.Lists.{items_from};
 ghost use Rattle.script_input.specs.Resources as spec;
-ghost use Rattle.script_input.specs.Resources.{AreResources};
 
 use crate::action::action_at;
 use crate::body::{delivery_in, one_body};
 use crate::header::Headers;
-use crate::list::{Each, ItemReader, list_at};
-use crate::object::{object_at, optional};
-use crate::refusal::{PAST_LIMIT, SAME_KEY, ScriptStop, WRONG_SHAPE, WRONG_URL, behind, refused};
+use crate::list::{Each, list_at};
+use crate::object::{object_at, optional, required};
+use crate::refusal::{PAST_LIMIT, SAME_KEY, ScriptStop, WRONG_SHAPE, WRONG_URL, refused};
 use crate::text::string_at;
 use crate::urls::url_of;
 use crate::value::{Integer, Reader, below};
 use http::StatusCode;
 use http_header::HeaderMap;
-use script_model::{Action, Actions, Head, PageUrl, Resource, Resources, UrlClass};
+use script_model::limits::{MAX_ACTIONS, MAX_RESOURCES};
+use script_model::{Action, Actions, Head, NoMemory, PageUrl, Resource, Resources, UrlClass};
 use serde_json::Value;
 use std::alloc::Global;
-
-/// The most actions of a resource.
-const MAX_ACTIONS: usize = 64;
-/// The most resources of a script.
-const MAX_RESOURCES: usize = 1024;
+use std::collections::HashSet;
 
 /// Whether resources have URLs of this class.
 fn is_resource_class(class: UrlClass) -> bool
@@ -41,39 +39,51 @@ fn is_resource_class(class: UrlClass) -> bool
     }
 }
 
-/// Whether one of the resources has this key.
-fn has_key(key: &str, resources: &[Resource]) -> bool
-    ensures { result ≡ spec.has_key key.now resources.now }
+/// Whether one of these keys is this one.
+fn is_taken(taken: &HashSet<String>, key: &str) -> bool
+    ensures { result ≡ contains_text taken.now key.now }
 {
-    resources.iter().any(|resource| resource.url.key() == key)
+    taken.contains(key)
 }
 
-#[tactic(auto, unfolding(crate::specs::Resources::url_at))]
-fn url_at(alloc: Global, before: &[Resource], value: &Value) -> Result<PageUrl, ScriptStop>
-    ensures gives { Gives result (spec.url_at before.now (view value.now)) }
-    ensures class { IfOk result (λ url. is_resource_class (class_of url) ≡ true) }
-    ensures new_key { IfOk result (λ url. spec.has_key (key_of url) before.now ≡ false) }
+/// Puts a key to those that are taken.
+fn take(alloc: Global, taken: &mut HashSet<String>, key: &str) -> Result<(), NoMemory>
+    ensures { OnOk result ((other : List ℕ) → contains_text taken.new other ≡ (bytes_eq key.now other || contains_text taken.old other)) }
 {
-    let text = string_at(alloc, value)?;
-    let url = url_of(alloc, text)?;
-    if !is_resource_class(url.class()) {
-        return Err(refused(alloc, WRONG_URL));
-    }
-    if has_key(url.key(), before) {
-        return Err(refused(alloc, SAME_KEY));
-    }
-    Ok(url)
+    taken.insert(String::from_str(alloc, key)?)?;
+    Ok(())
 }
 
-#[tactic(auto, unfolding(crate::specs::Objects::required), using(crate::proofs::BelowLemmas::below_gives))]
-fn url_in(alloc: Global, before: &[Resource], value: &Value) -> Result<PageUrl, ScriptStop>
-    ensures gives { Gives result (required (codes "url") (spec.url_at before.now) (view value.now)) }
-    ensures class { IfOk result (λ url. is_resource_class (class_of url) ≡ true) }
-    ensures new_key { IfOk result (λ url. spec.has_key (key_of url) before.now ≡ false) }
-{
-    match value.get("url") {
-        Some(found) => below(alloc, "url", url_at(alloc, before, found)),
-        None => Err(behind(alloc, "url", refused(alloc, WRONG_SHAPE))),
+/// The URL of a resource, whose key is none of those that are taken.
+#[derive(Drop)]
+struct NewUrl<'a> {
+    taken: &'a HashSet<String>,
+}
+
+impl Reader for NewUrl<'_> {
+    type Read = PageUrl;
+
+    ghost use Rattle.std.specs.Prelude.{◌≡◌, false, true};
+    ghost use Rattle.std.specs.HashSet.{contains_text};
+    ghost use Rattle.page_origin.specs.PageUrls.{class_of, key_of};
+    ghost use Rattle.script_model.specs.ResourceData.{is_resource_class};
+    ghost use Rattle.script_input.specs.Resources as spec;
+
+    ghost reading = { λ new. spec.url_at (contains_text new.taken.now) };
+
+    ghost keeps = { λ new url. (is_resource_class (class_of url) ≡ true) × (contains_text new.taken.now (key_of url) ≡ false) };
+
+    #[tactic(auto, unfolding(crate::specs::Resources::url_at))]
+    fn read(&self, alloc: Global, value: &Value) -> Result<PageUrl, ScriptStop> {
+        let text = string_at(alloc, value)?;
+        let url = url_of(alloc, text)?;
+        if !is_resource_class(url.class()) {
+            return Err(refused(alloc, WRONG_URL));
+        }
+        if is_taken(self.taken, url.key()) {
+            return Err(refused(alloc, SAME_KEY));
+        }
+        Ok(url)
     }
 }
 
@@ -146,11 +156,12 @@ struct ActionsAmong {
 impl Reader for ActionsAmong {
     type Read = Actions;
 
+    ghost use Rattle.script_input.specs.ForProofs.{AreActions};
     ghost use Rattle.script_input.specs.Resources as spec;
 
     ghost reading = { λ limit. spec.actions_at limit.count };
 
-    ghost keeps = { λ limit actions. spec.AreActions limit.count actions };
+    ghost keeps = { λ limit actions. AreActions limit.count actions };
 
     #[tactic(auto, using(crate::proofs::ActionLimits::are_actions, crate::proofs::ActionLimits::no_action))]
     fn read(&self, alloc: Global, value: &Value) -> Result<Actions, ScriptStop> {
@@ -164,7 +175,7 @@ impl Reader for ActionsAmong {
 #[tactic(auto, unfolding(crate::specs::Resources::actions_in), using(crate::proofs::ActionLimits::no_actions))]
 fn actions_in(alloc: Global, count: u32, value: &Value) -> Result<Actions, ScriptStop>
     ensures gives { Gives result (spec.actions_in count (view value.now)) }
-    ensures keeps { IfOk result (spec.AreActions count) }
+    ensures keeps { IfOk result (AreActions count) }
 {
     let actions = optional(alloc, "actions", &ActionsAmong { count }, value)?;
     Ok(actions.unwrap_or(Actions::from_vec(Vec::new(alloc))))
@@ -174,11 +185,11 @@ fn actions_in(alloc: Global, count: u32, value: &Value) -> Result<Actions, Scrip
 fn resource_at(
     alloc: Global,
     count: u32,
-    before: &[Resource],
+    taken: &HashSet<String>,
     value: &Value,
 ) -> Result<Resource, ScriptStop>
-    ensures gives { Gives result (spec.resource_at count before.now (view value.now)) }
-    ensures new_key { IfOk result (λ resource. spec.has_key (resource_key resource) before.now ≡ false) }
+    ensures gives { Gives result (spec.resource_at count (contains_text taken.now) (view value.now)) }
+    ensures new_key { IfOk result (λ resource. contains_text taken.now (resource_key resource) ≡ false) }
     ensures among { IfOk result (λ resource. All (IsActionAmong count) resource.actions) }
 {
     let keys = [
@@ -193,7 +204,7 @@ fn resource_at(
     ];
     object_at(alloc, &["url"], &keys, value)?;
     one_body(alloc, value)?;
-    let url = url_in(alloc, before, value)?;
+    let url = required(alloc, "url", &NewUrl { taken }, value)?;
     let head = head_in(alloc, value)?;
     let delivery = delivery_in(alloc, value)?;
     let actions = actions_in(alloc, count, value)?;
@@ -207,44 +218,54 @@ fn resource_at(
     })
 }
 
-/// One resource, in a script of so many.
-#[derive(Clone, Copy)]
-struct ResourceAmong {
+/// The resource at an index, in a script of so many, of a key that is not taken.
+#[tactic(auto, using(crate::proofs::BelowLemmas::below_gives))]
+fn nth_resource(
+    alloc: Global,
+    index: usize,
     count: u32,
+    taken: &HashSet<String>,
+    value: &Value,
+) -> Result<Resource, ScriptStop>
+    ensures gives { Gives result (checked.below (decimal index) (spec.resource_at count (contains_text taken.now) (view value.now))) }
+    ensures new_key { IfOk result (λ resource. contains_text taken.now (resource_key resource) ≡ false) }
+    ensures among { IfOk result (λ resource. All (IsActionAmong count) resource.actions) }
+{
+    let step = format!(in alloc; "{index}")?;
+    below(
+        alloc,
+        step.as_str(),
+        resource_at(alloc, count, taken, value),
+    )
 }
 
-impl ItemReader for ResourceAmong {
-    type Item = Resource;
-
-    ghost use Rattle.script_input.specs.Resources as spec;
-
-    ghost item_reading = { λ limit. spec.resource_at limit.count };
-
-    ghost listed = { λ limit resources. spec.AreResources limit.count resources };
-
-    fn item(
-        &self,
-        alloc: Global,
-        before: &[Resource],
-        value: &Value,
-    ) -> Result<Resource, ScriptStop> {
-        resource_at(alloc, self.count, before, value)
+/// All resources of a script; to each the keys of those before it are taken.
+#[tactic(auto, using(crate::proofs::ResourceLimits::one_more_key, crate::proofs::ResourceLimits::one_more_resource))]
+fn all_resources(alloc: Global, values: &[Value]) -> Result<Vec<Resource>, ScriptStop>
+    requires { length values.now ≤ 1024 }
+    ensures gives { GivesBy (λ resources. resources.items) result (items_from (λ before. spec.resource_at (length values.now) (spec.is_key_of before)) [] 0 (items_view values.now)) }
+    ensures keeps { IfOk result (λ resources. AreResources (length values.now) resources.items) }
+    ensures count { IfOk result (λ resources. length resources.items ≡ length values.now) }
+{
+    let count = values.len() as u32;
+    let mut resources = Vec::new(alloc);
+    let mut taken = HashSet::new(alloc);
+    for (i, value) in values.iter().enumerate() {
+        let resource = nth_resource(alloc, i, count, &taken, value)?;
+        take(alloc, &mut taken, resource.url.key())?;
+        resources.push(resource)?;
     }
+    Ok(resources)
 }
 
-#[tactic(auto, unfolding(crate::specs::Resources::resources_at, crate::specs::Lists::list_at), using(crate::proofs::ItemsLemmas::item_count_view, crate::proofs::ResourceLimits::no_resources))]
+#[tactic(auto, unfolding(crate::specs::Resources::resources_at, crate::specs::Lists::list_at), using(crate::proofs::ItemsLemmas::item_count_view))]
 fn resources_at(alloc: Global, value: &Value) -> Result<Vec<Resource>, ScriptStop>
     ensures gives { GivesBy (λ resources. resources.items) result (spec.resources_at (view value.now)) }
     ensures few { IfOk result (λ resources. length resources.items ≤ 1024) }
     ensures keeps { IfOk result (λ resources. AreResources (length resources.items) resources.items) }
 {
     match value.as_array() {
-        Some(values) if values.len() <= MAX_RESOURCES => {
-            let among = ResourceAmong {
-                count: values.len() as u32,
-            };
-            list_at(alloc, &among, MAX_RESOURCES, value)
-        }
+        Some(values) if values.len() <= MAX_RESOURCES => all_resources(alloc, values.as_slice()),
         Some(_) => Err(refused(alloc, PAST_LIMIT)),
         None => Err(refused(alloc, WRONG_SHAPE)),
     }
@@ -257,11 +278,12 @@ impl Reader for AllResources {
     type Read = Resources;
 
     ghost use Rattle.std.specs.Prelude.{◌≤◌, length};
+    ghost use Rattle.script_input.specs.ForProofs.{AreResources};
     ghost use Rattle.script_input.specs.Resources as spec;
 
     ghost reading = { λ _. spec.resources_at };
 
-    ghost keeps = { λ _ resources. (length resources ≤ 1024) × spec.AreResources (length resources) resources };
+    ghost keeps = { λ _ resources. (length resources ≤ 1024) × AreResources (length resources) resources };
 
     fn read(&self, alloc: Global, value: &Value) -> Result<Resources, ScriptStop> {
         let resources = resources_at(alloc, value)?;

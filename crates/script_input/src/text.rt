@@ -7,16 +7,10 @@ ghost use Rattle.script_input.specs.Values as spec;
 
 use crate::refusal::{PAST_LIMIT, ScriptStop, WRONG_SHAPE, refused};
 use crate::value::Reader;
+use script_model::limits::{MAX_SERVICE_NAME, MAX_SHORT_TEXT, MAX_URL_INPUT};
 use script_model::{RawUrl, RequestText, ServiceName};
 use serde_json::Value;
 use std::alloc::Global;
-
-/// The most bytes of a URL's text in an action.
-const MAX_URL_INPUT: usize = 4096;
-/// The most bytes of the text of a post or of a request to a service.
-const MAX_SHORT_TEXT: usize = 1024;
-/// The most bytes of the name of a service.
-const MAX_SERVICE_NAME: usize = 32;
 
 /// A string.
 pub fn string_at(alloc: Global, value: &Value) -> Result<&str, ScriptStop>

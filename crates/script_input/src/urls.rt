@@ -42,6 +42,7 @@ fn web_of(alloc: Global, text: &str) -> Result<PageUrl, ScriptStop>
 }
 
 /// A URL of class Web.
+#[derive(Drop)]
 pub struct WebUrl;
 
 impl Reader for WebUrl {
@@ -63,19 +64,20 @@ impl Reader for WebUrl {
 }
 
 /// A URL of class Web, standing for its tuple origin.
-pub struct Claim;
+#[derive(Drop)]
+pub struct TupleUrl;
 
-impl Reader for Claim {
+impl Reader for TupleUrl {
     type Read = TupleOrigin;
 
     ghost use Rattle.std.specs.Prelude.{⊤};
     ghost use Rattle.script_input.specs.Urls as spec;
 
-    ghost reading = { λ _. spec.claim_at };
+    ghost reading = { λ _. spec.tuple_at };
 
     ghost keeps = { λ _ _. ⊤ };
 
-    #[tactic(auto, unfolding(crate::specs::Urls::claim_at))]
+    #[tactic(auto, unfolding(crate::specs::Urls::tuple_at))]
     fn read(&self, alloc: Global, value: &Value) -> Result<TupleOrigin, ScriptStop> {
         let url = WebUrl.read(alloc, value)?;
         Ok(tuple_of(alloc, &url)?)

@@ -2,191 +2,229 @@ use crate::tests::told;
 use std::alloc::Global;
 use std::test::Fail;
 
-/// A text, so many times, with commas between.
-fn listed(alloc: Global, item: &str, count: u32) -> Result<String, Fail> {
-    let mut list = String::new(alloc);
-    for i in 0..count {
-        if i > 0 {
-            list.push_str(",")?;
-        }
-        list.push_str(item)?;
-    }
-    Ok(list)
-}
-
-/// What is said of a text whose middle is repeated, with commas between.
-fn told_listed(
-    alloc: Global,
-    front: &str,
-    item: &str,
-    count: u32,
-    back: &str,
-) -> Result<String, Fail> {
-    let list = listed(alloc, item, count)?;
-    let text = format!(in alloc; "{front}{list}{back}")?;
-    told(alloc, text.as_bytes())
-}
-
-/// What is said of a text whose middle is a letter, so many times.
-fn told_long(alloc: Global, front: &str, count: usize, back: &str) -> Result<String, Fail> {
-    let long = "x".repeat(alloc, count)?;
-    let text = format!(in alloc; "{front}{long}{back}")?;
-    told(alloc, text.as_bytes())
-}
-
-/// Lists: what stands before, the item, the most of them, what stands behind, and what is said of one more.
-const LISTS: &[(&str, &str, u32, &str, &str)] = &[
-    (r#"{"start":["#, "\"https://a.com/\"", 64, "]}", "X6/start"),
+/// Limits: what stands before, what is repeated, how often at most, what stands behind, and what is said of once more.
+const LIMITS: &[(&str, &str, usize, &str, &str)] = &[
+    (
+        r#"{"start":[],"suffixes":""#,
+        " ",
+        1_048_576,
+        r#""}"#,
+        "X6 /suffixes",
+    ),
+    (
+        r#"{"start":["#,
+        r#""https://a.com/","#,
+        63,
+        r#""https://a.com/"]}"#,
+        "X6 /start",
+    ),
+    (
+        r#"{"start":["https://a.com/"#,
+        "x",
+        2034,
+        r#""]}"#,
+        "X3 /start/0",
+    ),
+    (
+        r#"{"start":[],"isolated_origins":["#,
+        r#""https://a.com/","#,
+        63,
+        r#""https://a.com/"]}"#,
+        "X6 /isolated_origins",
+    ),
     (
         r#"{"start":[],"resources":[{"url":"https://a.com/","headers":["#,
-        r#"["a","b"]"#,
-        64,
-        "]}]}",
-        "X6/resources/0/headers",
-    ),
-    (
-        r#"{"start":[],"resources":[{"url":"https://a.com/","actions":["#,
-        r#"{"do":"wait"}"#,
-        64,
-        "]}]}",
-        "X6/resources/0/actions",
-    ),
-];
-
-/// Texts: what stands before, the most bytes, what stands behind, and what is said of one more.
-const TEXTS: &[(&str, usize, &str, &str)] = &[
-    (
-        r#"{"start":[],"resources":[{"url":"https://a.com/","body":""#,
-        16384,
-        r#""}]}"#,
-        "X6/resources/0/body",
+        r#"["a","b"],"#,
+        63,
+        r#"["a","b"]]}]}"#,
+        "X6 /resources/0/headers",
     ),
     (
         r#"{"start":[],"resources":[{"url":"https://a.com/","headers":[[""#,
+        "x",
         64,
         r#"","v"]]}]}"#,
-        "X5/resources/0/headers/0/0",
+        "X5 /resources/0/headers/0/0",
     ),
     (
         r#"{"start":[],"resources":[{"url":"https://a.com/","headers":[["n"," \t"#,
+        "x",
         1024,
         r#"\t "]]}]}"#,
-        "X6/resources/0/headers/0/1",
+        "X6 /resources/0/headers/0/1",
+    ),
+    (
+        r#"{"start":[],"resources":[{"url":"https://a.com/","body":""#,
+        "x",
+        16384,
+        r#""}]}"#,
+        "X6 /resources/0/body",
+    ),
+    (
+        r#"{"start":[],"resources":[{"url":"https://a.com/","body_hex":""#,
+        "0a",
+        16384,
+        r#""}]}"#,
+        "X6 /resources/0/body_hex",
+    ),
+    (
+        r#"{"start":[],"resources":[{"url":"https://a.com/","actions":["#,
+        r#"{"do":"wait"},"#,
+        63,
+        r#"{"do":"wait"}]}]}"#,
+        "X6 /resources/0/actions",
     ),
     (
         r#"{"start":[],"resources":[{"url":"https://a.com/","actions":[{"do":"page","url":""#,
+        "x",
         4096,
         r#""}]}]}"#,
-        "X6/resources/0/actions/0/url",
+        "X6 /resources/0/actions/0/url",
     ),
     (
         r#"{"start":[],"resources":[{"url":"https://a.com/","actions":[{"do":"post","frame":"top","target":"*","text":""#,
-        1024,
+        "\u{e9}",
+        512,
         r#""}]}]}"#,
-        "X6/resources/0/actions/0/text",
+        "X6 /resources/0/actions/0/text",
     ),
     (
         r#"{"start":[],"resources":[{"url":"https://a.com/","actions":[{"do":"ask","request":"","service":""#,
+        "x",
         32,
         r#""}]}]}"#,
-        "X6/resources/0/actions/0/service",
+        "X6 /resources/0/actions/0/service",
     ),
     (
         r#"{"start":[],"resources":[{"url":"https://a.com/","actions":[{"do":"ask","service":"store","request":""#,
+        "x",
         1024,
         r#""}]}]}"#,
-        "X6/resources/0/actions/0/request",
+        "X6 /resources/0/actions/0/request",
     ),
-    (r#"{"start":["https://a.com/"#, 2034, r#""]}"#, "X3/start/0"),
 ];
 
+/// Two faults, of which one is a length: what stands before, what is repeated, how often, what stands behind, and what is said.
+const FIRST_FAULTS: &[(&str, &str, usize, &str, &str)] = &[
+    (
+        r#"{"start":[],"suffixes":"!"#,
+        "x",
+        1_048_576,
+        r#""}"#,
+        "X6 /suffixes",
+    ),
+    (
+        r#"{"start":["no","#,
+        r#""https://a.com/","#,
+        63,
+        r#""https://a.com/"]}"#,
+        "X6 /start",
+    ),
+    (
+        r#"{"start":[],"isolated_origins":["about:blank","#,
+        r#""https://a.com/","#,
+        63,
+        r#""https://a.com/"]}"#,
+        "X6 /isolated_origins",
+    ),
+    (
+        r#"{"start":[],"resources":[{"url":"https://a.com/","headers":[["n","\u007f"#,
+        "x",
+        1024,
+        r#""]]}]}"#,
+        "X6 /resources/0/headers/0/1",
+    ),
+    (
+        r#"{"start":[],"resources":[{"url":"https://a.com/","headers":[["n","\u007f"#,
+        "x",
+        1023,
+        r#""]]}]}"#,
+        "X5 /resources/0/headers/0/1",
+    ),
+    (
+        r#"{"start":[],"resources":[{"url":"https://a.com/","body_hex":"0x"#,
+        "0a",
+        16384,
+        r#""}]}"#,
+        "X2 /resources/0/body_hex",
+    ),
+    (
+        r#"{"start":[],"resources":[{"url":"https://a.com/","actions":["#,
+        r#"{"do":"fly"},"#,
+        64,
+        r#"{"do":"wait"}]}]}"#,
+        "X6 /resources/0/actions",
+    ),
+];
+
+/// What is said of a text whose middle is repeated so often.
+fn told_repeated(
+    alloc: Global,
+    front: &str,
+    middle: &str,
+    count: usize,
+    back: &str,
+) -> Result<String, Fail> {
+    let middle = middle.repeat(alloc, count)?;
+    let text = format!(in alloc; "{front}{middle}{back}")?;
+    told(alloc, text.as_bytes())
+}
+
 #[test]
-fn lists_have_a_greatest_length(rt: HostRuntime) -> Result<(), Fail> {
+fn limits_are_the_most_that_is_read(rt: HostRuntime) -> Result<(), Fail> {
     let alloc = rt.alloc();
-    for (front, item, most, back, want) in LISTS {
+    for (front, middle, most, back, want) in LIMITS {
         let most = *most;
-        let found = told_listed(alloc, front, item, most, back)?;
-        assert_eq!(rt; found.as_str(), "read", "at {want}");
-        let found = told_listed(alloc, front, item, most.saturating_add(1), back)?;
+        let found = told_repeated(alloc, front, middle, most, back)?;
+        assert!(rt; found.as_str().starts_with("read"), "at {want}");
+        let found = told_repeated(alloc, front, middle, most.saturating_add(1), back)?;
         assert_eq!(rt; found.as_str(), *want);
     }
     Ok(())
 }
 
 #[test]
-fn texts_have_a_greatest_length(rt: HostRuntime) -> Result<(), Fail> {
-    let alloc = rt.alloc();
-    for (front, most, back, want) in TEXTS {
-        let most = *most;
-        let found = told_long(alloc, front, most, back)?;
-        assert_eq!(rt; found.as_str(), "read", "at {want}");
-        let found = told_long(alloc, front, most.saturating_add(1), back)?;
+fn lengths_are_told_in_their_turn(rt: HostRuntime) -> Result<(), Fail> {
+    for (front, middle, count, back, want) in FIRST_FAULTS {
+        let found = told_repeated(rt.alloc(), front, middle, *count, back)?;
         assert_eq!(rt; found.as_str(), *want);
     }
     Ok(())
 }
 
-/// What is said of a body of 16,384 bytes in hexadecimal, with so many digits behind.
-fn told_digits(alloc: Global, more: &str) -> Result<String, Fail> {
-    let front = r#"{"start":[],"resources":[{"url":"https://a.com/","body_hex":""#;
-    let most = "0a".repeat(alloc, 16384)?;
-    let text = format!(in alloc; "{front}{most}{more}\"}}]}}")?;
-    told(alloc, text.as_bytes())
-}
-
-#[test]
-fn a_body_in_hexadecimal_has_a_greatest_length(rt: HostRuntime) -> Result<(), Fail> {
-    for (more, want) in [
-        ("", "read"),
-        ("0a", "X6/resources/0/body_hex"),
-        ("0x", "X2/resources/0/body_hex"),
-    ] {
-        let found = told_digits(rt.alloc(), more)?;
-        assert_eq!(rt; found.as_str(), want);
-    }
-    Ok(())
-}
-
-/// What is said of 1,048,576 bytes of suffix rules, with so many bytes behind.
-fn told_rules(alloc: Global, more: &str) -> Result<String, Fail> {
-    let most = "// comment line\\n".repeat(alloc, 65536)?;
-    let text = format!(in alloc; "{{\"start\":[],\"suffixes\":\"{most}{more}\"}}")?;
-    told(alloc, text.as_bytes())
-}
-
-#[test]
-fn suffix_rules_have_a_greatest_length(rt: HostRuntime) -> Result<(), Fail> {
-    for (more, want) in [("", "read"), ("!", "X6/suffixes")] {
-        let found = told_rules(rt.alloc(), more)?;
-        assert_eq!(rt; found.as_str(), want);
-    }
-    Ok(())
-}
-
-fn resources(alloc: Global, count: u32) -> Result<String, Fail> {
+/// What is said of so many resources at URLs of their own, and one more at this URL.
+fn told_resources(alloc: Global, count: u32, last: &str) -> Result<String, Fail> {
     let mut text = String::from_str(alloc, "{\"start\":[],\"resources\":[")?;
     for i in 0..count {
-        if i > 0 {
-            text.push_str(",")?;
-        }
-        let resource = format!(in alloc; "{{\"url\":\"https://a.com/{i}\"}}")?;
+        let resource = format!(in alloc; "{{\"url\":\"https://a.com/{i}\"}},")?;
         text.push_str(resource.as_str())?;
     }
-    text.push_str("]}")?;
-    Ok(text)
+    let resource = format!(in alloc; "{{\"url\":\"{last}\"}}]}}")?;
+    text.push_str(resource.as_str())?;
+    told(alloc, text.as_bytes())
 }
 
 #[test]
-fn a_script_has_at_most_1024_resources(rt: HostRuntime) -> Result<(), Fail> {
-    for (count, want) in [(1024, "read"), (1025, "X6/resources")] {
-        let text = resources(rt.alloc(), count)?;
-        let found = told(rt.alloc(), text.as_bytes())?;
+fn a_script_has_at_most_1024_resources_each_of_its_own_key(rt: HostRuntime) -> Result<(), Fail> {
+    let found = told_resources(rt.alloc(), 1023, "https://a.com/last#x")?;
+    assert!(rt;
+        found
+            .as_str()
+            .ends_with("https://a.com/1022 resource https://a.com/last#x")
+    );
+    for (count, last, want) in [
+        (1023, "https://a.com/0#x", "X7 /resources/1023/url"),
+        (1023, "https://a.com/1022", "X7 /resources/1023/url"),
+        (1024, "https://a.com/0", "X6 /resources"),
+    ] {
+        let found = told_resources(rt.alloc(), count, last)?;
         assert_eq!(rt; found.as_str(), want);
     }
     Ok(())
 }
 
-fn cut_everywhere(alloc: Global, last: u32) -> Result<String, Fail> {
+/// What is said of a body of 100 bytes that is cut behind each of so many.
+fn told_cuts(alloc: Global, last: u32) -> Result<String, Fail> {
     let body = "x".repeat(alloc, 100)?;
     let mut text = format!(in alloc;
         "{{\"start\":[],\"resources\":[{{\"url\":\"https://a.com/\",\"body\":\"{body}\",\"cuts\":[1"
@@ -196,30 +234,29 @@ fn cut_everywhere(alloc: Global, last: u32) -> Result<String, Fail> {
         text.push_str(cut.as_str())?;
     }
     text.push_str("]}]}")?;
-    Ok(text)
+    told(alloc, text.as_bytes())
 }
 
 #[test]
 fn a_body_has_at_most_63_cuts(rt: HostRuntime) -> Result<(), Fail> {
-    for (count, want) in [(63, "read"), (64, "X6/resources/0/cuts")] {
-        let text = cut_everywhere(rt.alloc(), count)?;
-        let found = told(rt.alloc(), text.as_bytes())?;
-        assert_eq!(rt; found.as_str(), want);
-    }
+    let found = told_cuts(rt.alloc(), 63)?;
+    assert!(rt; found.as_str().ends_with(" cut 62 cut 63"));
+    let found = told_cuts(rt.alloc(), 64)?;
+    assert_eq!(rt; found.as_str(), "X6 /resources/0/cuts");
     Ok(())
 }
 
-fn nested(alloc: Global, depth: usize) -> Result<String, Fail> {
-    let open = "[".repeat(alloc, depth)?;
-    let close = "]".repeat(alloc, depth)?;
-    Ok(format!(in alloc; "{open}{close}")?)
+/// What is said of lists, so many within one another.
+fn told_nested(alloc: Global, depth: usize) -> Result<String, Fail> {
+    let front = "[".repeat(alloc, depth)?;
+    let back = "]".repeat(alloc, depth)?;
+    told_repeated(alloc, front.as_str(), "", 0, back.as_str())
 }
 
 #[test]
 fn values_nest_at_most_127_deep(rt: HostRuntime) -> Result<(), Fail> {
-    for (count, want) in [(127, "X2"), (128, "X1")] {
-        let text = nested(rt.alloc(), count)?;
-        let found = told(rt.alloc(), text.as_bytes())?;
+    for (depth, want) in [(127, "X2"), (128, "X1")] {
+        let found = told_nested(rt.alloc(), depth)?;
         assert_eq!(rt; found.as_str(), want);
     }
     Ok(())
