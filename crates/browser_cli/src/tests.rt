@@ -90,7 +90,13 @@ fn commands_end_with_their_status(rt: HostRuntime) -> Result<(), Fail> {
 
 // The suffix rules, the isolated origin and the start page of a script, and the site and the origin of its order.
 const SITES: &[(&str, &str, &str, &str, &str)] = &[
-    ("", "https://pay.a.com", "https://pay.a.com/", "=https://pay.a.com", "https://pay.a.com"),
+    (
+        "",
+        "https://pay.a.com",
+        "https://pay.a.com/",
+        "=https://pay.a.com",
+        "https://pay.a.com",
+    ),
     (
         "",
         "https://pay.a.com:8443/any/path",
@@ -98,8 +104,20 @@ const SITES: &[(&str, &str, &str, &str, &str)] = &[
         "=https://pay.a.com:8443",
         "https://pay.a.com:8443",
     ),
-    ("", "https://pay.a.com:8443", "https://pay.a.com/", "https://a.com", "https://pay.a.com"),
-    ("", "https://pay.a.com", "http://pay.a.com/", "http://a.com", "http://pay.a.com"),
+    (
+        "",
+        "https://pay.a.com:8443",
+        "https://pay.a.com/",
+        "https://a.com",
+        "https://pay.a.com",
+    ),
+    (
+        "",
+        "https://pay.a.com",
+        "http://pay.a.com/",
+        "http://a.com",
+        "http://pay.a.com",
+    ),
     (
         "",
         "http://127.0.0.1:8080",
@@ -107,9 +125,27 @@ const SITES: &[(&str, &str, &str, &str, &str)] = &[
         "=http://127.0.0.1:8080",
         "http://127.0.0.1:8080",
     ),
-    ("", "https://pay.a.com", "https://sub.pay.a.com/", "https://a.com", "https://sub.pay.a.com"),
-    ("co.uk", "https://pay.a.com", "https://www.shop.co.uk/", "https://shop.co.uk", "https://www.shop.co.uk"),
-    ("uk", "https://pay.a.com", "https://www.shop.co.uk/", "https://co.uk", "https://www.shop.co.uk"),
+    (
+        "",
+        "https://pay.a.com",
+        "https://sub.pay.a.com/",
+        "https://a.com",
+        "https://sub.pay.a.com",
+    ),
+    (
+        "co.uk",
+        "https://pay.a.com",
+        "https://www.shop.co.uk/",
+        "https://shop.co.uk",
+        "https://www.shop.co.uk",
+    ),
+    (
+        "uk",
+        "https://pay.a.com",
+        "https://www.shop.co.uk/",
+        "https://co.uk",
+        "https://www.shop.co.uk",
+    ),
 ];
 
 fn order_of(alloc: Global, suffixes: &str, isolated: &str, page: &str) -> Result<String, Fail> {
@@ -227,10 +263,7 @@ fn refusals_have_texts(rt: HostRuntime) -> Result<(), Fail> {
     for (script, want) in [
         ("[]", "refused X2"),
         (r#"{"start":["no"]}"#, "refused X3 /start/0"),
-        (
-            r#"{"start":[],"suffixes":"a.*.b"}"#,
-            "refused X4 line 1",
-        ),
+        (r#"{"start":[],"suffixes":"a.*.b"}"#, "refused X4 line 1"),
         (r#"{"start":[]}"#, ""),
     ] {
         let text = stop_text(rt.alloc(), script)?;
