@@ -1,16 +1,15 @@
-ghost use Rattle.std.specs.Prelude.{◌≡◌, IfOk};
-ghost use Rattle.page_origin.specs.PageUrls.{class_of};
-ghost use Rattle.cors_check.specs.Chains.{IsWebChain};
+//! Rows of the table of verdicts, judged in pieces, whole and byte by byte.
+
+mod bodies;
+mod largest;
+mod requests;
+mod resource_policies;
 
 use crate::{Cleared, Judge, Ruling};
-use http_header::{HeaderMap, HeaderName};
-use script_model::{
-    FieldText, Head, Mode, Origin, PageUrl, Policy, Rule, Rules, SiteRules, StatusCode, UrlClass,
-    Verdict, page_url, plain_verdict, tuple_of,
-};
+use script_model::{Head, Mode, Origin, Policy, Rule, Rules, SiteRules, Verdict};
 use std::alloc::Global;
-use std::process::Abort;
 use std::test::Fail;
+use test_support::{head, origin, tuple_origin, web_chain};
 
 const MORE: Ruling = Ruling::More;
 
@@ -38,195 +37,19 @@ const B6: Ruling = Ruling::Settled(Verdict::Block(Rule::B6));
 
 const B7: Ruling = Ruling::Settled(Verdict::Block(Rule::B7));
 
+const B8: Ruling = Ruling::Settled(Verdict::Block(Rule::B8));
+
 /// The number of the request that is judged.
 const REQUEST: u32 = 7;
 
-/// A status, a content type, the pieces of a body each with the ruling after it, and the ruling at the end; mode no-cors,
-/// of another site.
-const PIECES: &[(u16, &str, &[(&[u8], Ruling)], Ruling)] = &[
-    (
-        200,
-        "text/html",
-        &[(b"<", MORE), (b"i", MORE), (b"m", A5)],
-        A5,
-    ),
-    (200, "text/html", &[(b"<", MORE), (b"a", B4)], B4),
-    (200, "application/json", &[(b"{}", MORE), (b"x", A5)], A5),
-    (200, "text/javascript", &[(b"{", MORE), (b"}&&", B7)], B7),
-    (200, "text/css", &[(b"", A4)], A4),
-    (200, "text/plain", &[(b"x", A5)], A5),
-    (200, "text/plain", &[(b"{\"a\"", MORE)], A5),
-    (206, "text/html", &[(b"", B2)], B2),
-    // What was settled stays, whatever follows.
-    (200, "text/html", &[(b"im", A5), (b"<p", A5)], A5),
-    (200, "text/html", &[(b"<p", B4), (b"im", B4)], B4),
-    (200, "text/css", &[(b")]}'", A4)], A4),
-    (206, "text/html", &[(b"im", B2)], B2),
-    // Empty pieces change nothing.
-    (
-        200,
-        "text/html",
-        &[
-            (b"", MORE),
-            (b"<", MORE),
-            (b"", MORE),
-            (b"p", B4),
-            (b"", B4),
-        ],
-        B4,
-    ),
-    (200, "text/html", &[], A5),
-];
-
-/// A content type, its options, a body, and the verdict at its end, in mode no-cors, of another site.
-const BODIES: &[(&str, &str, &[u8], Ruling)] = &[
-    ("text/html", "", b"<!-- x --><hTmL", B4),
-    ("text/plain", "", b"{\"a\" :", B6),
-    ("text/plain", "NoSniff", b"x", B3),
-    ("application/xml", "", b" <?xml", B5),
-    ("image/svg+xml", "", b"<?xml", A4),
-    ("application/json", "", b"hello", A5),
-    ("text/javascript", "", b")]}'", B7),
-    ("text/css", "", b")]}'", A4),
-    ("text/html", "", b"", A5),
-    ("text/html", "", b"<ht", A5),
-];
-
-/// The chain of a request of `https://a.com`, its mode, the values of `Access-Control-Allow-Origin`, and the ruling on a
-/// page of `text/html`.
-const CHAINS: &[(&[&str], Mode, &[&str], Ruling)] = &[
-    (&["https://a.com/1"], Mode::NoCors, &[], A3),
-    (&["https://sub.a.com/1"], Mode::NoCors, &[], A3),
-    (
-        &["https://b.com/1", "https://a.com/2"],
-        Mode::NoCors,
-        &[],
-        B4,
-    ),
-    (
-        &["https://a.com/1", "https://b.com/2", "https://a.com/3"],
-        Mode::NoCors,
-        &["*"],
-        B4,
-    ),
-    (&["https://a.com/1"], Mode::Cors, &[], A1),
-    (&["https://b.com/1"], Mode::Cors, &["*"], A2),
-    (&["https://b.com/1"], Mode::Cors, &["https://a.com"], A2),
-    (
-        &["https://b.com/1"],
-        Mode::Cors,
-        &["https://a.com", "https://b.com"],
-        B1,
-    ),
-    (&["https://b.com/1"], Mode::Cors, &[], B1),
-];
-
-fn web_url(rt: &impl Abort, alloc: Global, text: &str) -> Result<PageUrl, Fail>
-    ensures { IfOk result (λ url. class_of url ≡ UrlClass.Web) }
-{
-    let url = page_url(alloc, text)?;
-    assert!(rt; url.class() == UrlClass::Web, "{text}");
-    Ok(url)
-}
-
-fn chain(rt: &impl Abort, alloc: Global, texts: &[&str]) -> Result<Vec<PageUrl>, Fail>
-    ensures { IfOk result (λ chain. IsWebChain chain.items) }
-{
-    let mut chain = Vec::new(alloc);
-    for text in texts {
-        chain.push(web_url(rt, alloc, text)?)?;
+/// Site rules of a suffix text and the origins of these URLs.
+fn site_rules(alloc: Global, suffixes: &str, isolated: &[&str]) -> Result<SiteRules, Fail> {
+    let mut origins = Vec::new(alloc);
+    for url in isolated {
+        origins.push(tuple_origin(alloc, url)?)?;
     }
-    Ok(chain)
-}
-
-/// The tuple origin `https://a.com`.
-fn tuple(rt: &impl Abort, alloc: Global) -> Result<Origin, Fail> {
-    let url = web_url(rt, alloc, "https://a.com/")?;
-    Ok(Origin::Tuple(tuple_of(alloc, &url)?))
-}
-
-fn add(
-    alloc: Global,
-    fields: &mut HeaderMap<FieldText>,
-    name: &str,
-    value: &str,
-) -> Result<(), Fail> {
-    let name = HeaderName::from_bytes(alloc, name.as_bytes())?;
-    fields.append(name, FieldText::new(alloc, value)?)?;
-    Ok(())
-}
-
-/// A head with a content type and its options.
-fn typed(alloc: Global, status: u16, content_type: &str, options: &str) -> Result<Head, Fail> {
-    let mut fields = HeaderMap::empty(alloc);
-    add(alloc, &mut fields, "Content-Type", content_type)?;
-    add(alloc, &mut fields, "X-Content-Type-Options", options)?;
-    let status = StatusCode::from_u16(status).map_err(|_| Fail::new("status"))?;
-    Ok(Head { status, fields })
-}
-
-/// The head of a page of `text/html` that allows these origins.
-fn allowing(alloc: Global, origins: &[&str]) -> Result<Head, Fail> {
-    let mut fields = HeaderMap::empty(alloc);
-    add(alloc, &mut fields, "Content-Type", "text/html")?;
-    for origin in origins {
-        add(alloc, &mut fields, "Access-Control-Allow-Origin", origin)?;
-    }
-    Ok(Head {
-        status: StatusCode::OK,
-        fields,
-    })
-}
-
-/// A judge of a request of `https://a.com`.
-fn judge(
-    rt: &impl Abort,
-    alloc: Global,
-    urls: &[&str],
-    mode: Mode,
-    head: &Head,
-) -> Result<Judge, Fail> {
-    let rules = SiteRules::new(Rules::new(alloc), Vec::new(alloc));
-    let origin = tuple(rt, alloc)?;
-    let chain = chain(rt, alloc, urls)?;
-    let judge = Judge::new(
-        alloc,
-        &rules,
-        Policy::Two,
-        REQUEST,
-        &origin,
-        &chain,
-        mode,
-        head,
-    )?;
-    Ok(judge)
-}
-
-/// A judge of a response of another site in mode no-cors.
-fn of_another_site(rt: &impl Abort, alloc: Global, head: &Head) -> Result<Judge, Fail> {
-    judge(rt, alloc, &["https://b.com/x"], Mode::NoCors, head)
-}
-
-/// The verdict of the plain program on such a response, whole.
-fn plain(rt: &impl Abort, alloc: Global, head: &Head, body: &[u8]) -> Result<Ruling, Fail> {
-    let rules = SiteRules::new(Rules::new(alloc), Vec::new(alloc));
-    let origin = tuple(rt, alloc)?;
-    let chain = chain(rt, alloc, &["https://b.com/x"])?;
-    let mode = Mode::NoCors;
-    match plain_verdict(
-        alloc,
-        &rules,
-        Policy::Two,
-        &origin,
-        &chain,
-        mode,
-        head,
-        body,
-        true,
-    )? {
-        Some(verdict) => Ok(Ruling::Settled(verdict)),
-        None => Ok(Ruling::More),
-    }
+    let suffixes = Rules::read(alloc, suffixes.as_bytes())?;
+    Ok(SiteRules::new(suffixes, origins))
 }
 
 /// Whether leave is given exactly where a ruling allows, by its rule and for the request.
@@ -240,94 +63,96 @@ fn is_cleared_by(cleared: Option<Cleared>, ruling: Ruling) -> bool {
     }
 }
 
-#[test]
-fn pieces_in_turn(rt: HostRuntime) -> Result<(), Fail> {
-    let alloc = rt.alloc();
-    for (status, content_type, pieces, end) in PIECES {
-        let head = typed(alloc, *status, content_type, "")?;
-        let mut judge = of_another_site(&rt, alloc, &head)?;
-        for (piece, want) in *pieces {
-            assert_eq!(rt; judge.feed(piece), *want);
-            assert!(rt; is_cleared_by(judge.cleared(), *want));
+/// Whether a judge that was fed nothing gives this early ruling, and the other at the end of a body that is fed whole.
+fn is_told_whole(judge: &mut Judge, body: &[u8], early: Ruling, want: Ruling) -> bool {
+    let at_once = is_cleared_by(judge.cleared(), early) && judge.feed(b"") == early;
+    let fed = judge.feed(body);
+    at_once
+        && (fed == MORE || fed == want)
+        && is_cleared_by(judge.cleared(), fed)
+        && judge.finish() == want
+        && is_cleared_by(judge.cleared(), want)
+}
+
+/// The same where the body is fed byte by byte: until the ruling is settled it is `More`.
+fn is_told_singly(judge: &mut Judge, body: &[u8], early: Ruling, want: Ruling) -> bool {
+    let mut so_far = early;
+    for byte in body {
+        let ruling = judge.feed(&[*byte]);
+        let stays = so_far == MORE || ruling == so_far;
+        if !stays || (ruling != MORE && ruling != want) || !is_cleared_by(judge.cleared(), ruling) {
+            return false;
         }
-        assert_eq!(rt; judge.finish(), *end);
-        assert!(rt; is_cleared_by(judge.cleared(), *end));
+        so_far = ruling;
     }
-    Ok(())
+    judge.finish() == want && is_cleared_by(judge.cleared(), want)
 }
 
-#[test]
-fn bodies_whole_and_byte_by_byte(rt: HostRuntime) -> Result<(), Fail> {
-    let alloc = rt.alloc();
-    for (content_type, options, body, want) in BODIES {
-        let head = typed(alloc, 200, content_type, options)?;
-        assert_eq!(rt; plain(&rt, alloc, &head, body)?, *want);
-        let mut whole = of_another_site(&rt, alloc, &head)?;
-        let _ruling = whole.feed(body);
-        assert_eq!(rt; whole.finish(), *want);
-        let mut singly = of_another_site(&rt, alloc, &head)?;
-        for byte in *body {
-            let _ruling = singly.feed(&[*byte]);
-        }
-        assert_eq!(rt; singly.finish(), *want);
-        assert!(rt; is_cleared_by(singly.cleared(), *want));
-    }
-    Ok(())
+/// Whose request for a response is judged, and by what rules.
+#[derive(Drop)]
+struct Asker {
+    rules: SiteRules,
+    policy: Policy,
+    origin: Origin,
+    mode: Mode,
 }
 
-#[test]
-fn chains_and_modes(rt: HostRuntime) -> Result<(), Fail> {
-    let alloc = rt.alloc();
-    for (urls, mode, allowed, want) in CHAINS {
-        let head = allowing(alloc, allowed)?;
-        let mut judge = judge(&rt, alloc, urls, *mode, &head)?;
-        // What needs no byte is settled before the first piece.
-        let early = if *want == B4 { MORE } else { *want };
-        assert!(rt; is_cleared_by(judge.cleared(), early));
-        assert_eq!(rt; judge.feed(b"<"), early);
-        assert_eq!(rt; judge.feed(b"p"), *want);
-        assert!(rt; is_cleared_by(judge.cleared(), *want));
-    }
-    Ok(())
+/// A page in mode no-cors, of the second policy, without suffix rules and isolated origins.
+fn page(alloc: Global, origin: Origin) -> Result<Asker, Fail> {
+    Ok(Asker {
+        rules: site_rules(alloc, "", &[])?,
+        policy: Policy::Two,
+        origin,
+        mode: Mode::NoCors,
+    })
 }
 
-/// The ruling at the end of a body of `text/html`: so many spaces, then `<html`, byte by byte.
-fn behind(rt: &impl Abort, alloc: Global, spaces: usize) -> Result<Ruling, Fail> {
-    let head = typed(alloc, 200, "text/html", "")?;
-    let mut judge = of_another_site(rt, alloc, &head)?;
-    for _ in 0..spaces {
-        let _ruling = judge.feed(b" ");
-    }
-    for byte in b"<html" {
-        let _ruling = judge.feed(&[*byte]);
-    }
-    Ok(judge.finish())
+/// The page `https://a.com/`, so.
+fn own_page(alloc: Global) -> Result<Asker, Fail> {
+    page(alloc, origin(alloc, "https://a.com/")?)
 }
 
-#[test]
-fn window_of_1024_bytes(rt: HostRuntime) -> Result<(), Fail> {
-    assert_eq!(rt; behind(&rt, rt.alloc(), 1019)?, B4);
-    assert_eq!(rt; behind(&rt, rt.alloc(), 1020)?, A5);
-    let head = typed(rt.alloc(), 200, "text/html", "")?;
-    let mut judge = of_another_site(&rt, rt.alloc(), &head)?;
-    assert_eq!(rt; judge.feed(b"<!-- "), MORE);
-    let letters = vec![in rt.alloc(); b'x'; 1019]?;
-    assert_eq!(rt; judge.feed(&letters[..1018]), MORE);
-    assert_eq!(rt; judge.feed(&letters[1018..]), A5);
-    Ok(())
-}
+impl Asker {
+    /// A judge of the response to a request with this chain.
+    fn judge(&self, alloc: Global, chain: &[&str], head: &Head) -> Result<Judge, Fail> {
+        let (rules, policy, origin, mode) = (&self.rules, self.policy, &self.origin, self.mode);
+        let chain = web_chain(alloc, chain)?;
+        let judge = Judge::new(alloc, rules, policy, REQUEST, origin, &chain, mode, head)?;
+        Ok(judge)
+    }
 
-#[test]
-fn a_body_that_breaks_off(rt: HostRuntime) -> Result<(), Fail> {
-    let alloc = rt.alloc();
-    let head = typed(alloc, 200, "text/html", "")?;
-    // `<html>` breaks off behind three bytes: nothing is settled, and nothing is handed out.
-    let mut page = of_another_site(&rt, alloc, &head)?;
-    assert_eq!(rt; page.feed(b"<ht"), MORE);
-    assert!(rt; page.cleared().is_none());
-    // `hello` does: three bytes are enough.
-    let mut text = of_another_site(&rt, alloc, &head)?;
-    assert_eq!(rt; text.feed(b"hel"), A5);
-    assert!(rt; is_cleared_by(text.cleared(), A5));
-    Ok(())
+    /// Whether the ruling is the early one before the first byte, and the other at the end of the body, fed whole and byte
+    /// by byte, with leave exactly where it allows.
+    fn is_told(
+        &self,
+        alloc: Global,
+        chain: &[&str],
+        head: &Head,
+        body: &[u8],
+        early: Ruling,
+        want: Ruling,
+    ) -> Result<bool, Fail> {
+        let mut whole = self.judge(alloc, chain, head)?;
+        let mut singly = self.judge(alloc, chain, head)?;
+        Ok(
+            is_told_whole(&mut whole, body, early, want)
+                && is_told_singly(&mut singly, body, early, want),
+        )
+    }
+
+    /// The same of a page of `text/html` that begins with `<p`, with these further fields: B4 by its bytes, and every
+    /// other before the first of them.
+    fn is_told_of_a_page(
+        &self,
+        alloc: Global,
+        chain: &[&str],
+        fields: &[(&'static str, &'static str)],
+        want: Ruling,
+    ) -> Result<bool, Fail> {
+        let mut all = vec![in alloc; ("Content-Type", "text/html")]?;
+        all.extend_from_slice(fields)?;
+        let head = head(alloc, 200, &all)?;
+        let early = if want == B4 { MORE } else { want };
+        self.is_told(alloc, chain, &head, b"<p", early, want)
+    }
 }

@@ -43,5 +43,3 @@ pub use verdict::{Verdict, sniff_kind, sniffed_verdict};
 
 #[cfg(test)]
 mod tests;
-#[cfg(test)]
-mod verdict_tests;

@@ -1,42 +1,125 @@
-use crate::{PageUrls, Policy, Resource, Resources, Rules, Script, SiteRules, find};
+//! Rows of the format of scripts and of the table of verdicts.
+
+mod bodies;
+mod chains;
+mod cors_modes;
+mod format_limits;
+mod heads;
+mod largest;
+mod resource_policies;
+mod scripts;
+
+use crate::{
+    Head, Mode, Origin, Policy, Rule, Rules, SiteRules, Verdict, early_verdict, plain_verdict,
+};
 use std::alloc::Global;
 use std::test::Fail;
-use test_support::web_url;
+use test_support::{head, origin, tuple_origin, web_chain};
 
-fn script(alloc: Global) -> Result<Script, Fail> {
-    let start = vec![in alloc; web_url(alloc, "https://a.com/")?]?;
-    let start = PageUrls::from_vec(start);
-    let rules = SiteRules::new(Rules::new(alloc), Vec::new(alloc));
-    Ok(Script::new(alloc, rules, start))
+const A1: Option<Verdict> = Some(Verdict::Allow(Rule::A1));
+
+const A2: Option<Verdict> = Some(Verdict::Allow(Rule::A2));
+
+const A3: Option<Verdict> = Some(Verdict::Allow(Rule::A3));
+
+const A4: Option<Verdict> = Some(Verdict::Allow(Rule::A4));
+
+const A5: Option<Verdict> = Some(Verdict::Allow(Rule::A5));
+
+const B1: Option<Verdict> = Some(Verdict::Block(Rule::B1));
+
+const B2: Option<Verdict> = Some(Verdict::Block(Rule::B2));
+
+const B3: Option<Verdict> = Some(Verdict::Block(Rule::B3));
+
+const B4: Option<Verdict> = Some(Verdict::Block(Rule::B4));
+
+const B5: Option<Verdict> = Some(Verdict::Block(Rule::B5));
+
+const B6: Option<Verdict> = Some(Verdict::Block(Rule::B6));
+
+const B7: Option<Verdict> = Some(Verdict::Block(Rule::B7));
+
+const B8: Option<Verdict> = Some(Verdict::Block(Rule::B8));
+
+/// Site rules of a suffix text and the origins of these URLs.
+fn site_rules(alloc: Global, suffixes: &str, isolated: &[&str]) -> Result<SiteRules, Fail> {
+    let mut origins = Vec::new(alloc);
+    for url in isolated {
+        origins.push(tuple_origin(alloc, url)?)?;
+    }
+    let suffixes = Rules::read(alloc, suffixes.as_bytes())?;
+    Ok(SiteRules::new(suffixes, origins))
 }
 
-#[test]
-fn a_script_lends_what_it_was_made_of(rt: HostRuntime) -> Result<(), Fail> {
-    let script = script(rt.alloc())?;
-    assert_eq!(rt; script.start_count(), 1);
-    assert!(rt; script.policy == Policy::Two);
-    assert!(rt; !script.spare && script.soft_limit == 64);
-    assert_eq!(rt;
-        script.start.get(0).map(|url| url.text()),
-        Some("https://a.com/")
-    );
-    assert_eq!(rt; script.start.get(1).map(|url| url.text()), None);
-    assert_eq!(rt; script.resources.as_slice().len(), 0);
-    Ok(())
+/// Whose request for a response is judged, and by what rules.
+#[derive(Drop)]
+struct Asker {
+    rules: SiteRules,
+    policy: Policy,
+    origin: Origin,
+    mode: Mode,
 }
 
-#[test]
-fn a_resource_is_found_without_its_fragment(rt: HostRuntime) -> Result<(), Fail> {
-    let alloc = rt.alloc();
-    let mut script = script(alloc)?;
-    let resource = Resource::new(alloc, web_url(alloc, "https://b.org/#top")?);
-    assert_eq!(rt; resource.head.status.as_u16(), 200);
-    assert_eq!(rt; resource.body.len(), 0);
-    assert!(rt; !resource.fails_at_once());
-    script.resources = Resources::from_vec(vec![in alloc; resource]?);
-    let found = find(&script, "https://b.org/").map(|resource| resource.url.text());
-    assert_eq!(rt; found, Some("https://b.org/#top"));
-    assert!(rt; find(&script, "https://b.org/#top").is_none());
-    assert!(rt; find(&script, "https://a.com/").is_none());
-    Ok(())
+/// A page in mode no-cors, of the second policy, without suffix rules and isolated origins.
+fn page(alloc: Global, origin: Origin) -> Result<Asker, Fail> {
+    Ok(Asker {
+        rules: site_rules(alloc, "", &[])?,
+        policy: Policy::Two,
+        origin,
+        mode: Mode::NoCors,
+    })
+}
+
+/// The page `https://a.com/`, so.
+fn own_page(alloc: Global) -> Result<Asker, Fail> {
+    page(alloc, origin(alloc, "https://a.com/")?)
+}
+
+impl Asker {
+    /// The verdict by the chain and the head, and the bytes of the body so far, and whether it has ended.
+    fn verdict(
+        &self,
+        alloc: Global,
+        chain: &[&str],
+        head: &Head,
+        body: &[u8],
+        ended: bool,
+    ) -> Result<Option<Verdict>, Fail> {
+        let (rules, policy, origin, mode) = (&self.rules, self.policy, &self.origin, self.mode);
+        let chain = web_chain(alloc, chain)?;
+        let verdict = plain_verdict(
+            alloc, rules, policy, origin, &chain, mode, head, body, ended,
+        )?;
+        Ok(verdict)
+    }
+
+    /// The verdict by the chain and the head alone.
+    fn early(&self, alloc: Global, chain: &[&str], head: &Head) -> Result<Option<Verdict>, Fail> {
+        let (rules, policy, origin, mode) = (&self.rules, self.policy, &self.origin, self.mode);
+        let chain = web_chain(alloc, chain)?;
+        let verdict = early_verdict(alloc, rules, policy, origin, &chain, mode, head)?;
+        Ok(verdict)
+    }
+
+    /// Whether this is the verdict on a page of `text/html` that begins with `<p`, with these further fields: B4 by its
+    /// bytes, and every other before the first of them.
+    fn has_of_a_page(
+        &self,
+        alloc: Global,
+        chain: &[&str],
+        fields: &[(&'static str, &'static str)],
+        want: Option<Verdict>,
+    ) -> Result<bool, Fail> {
+        let mut all = vec![in alloc; ("Content-Type", "text/html")]?;
+        all.extend_from_slice(fields)?;
+        let head = head(alloc, 200, &all)?;
+        let early = if want == B4 { None } else { want };
+        Ok(
+            self.early(alloc, chain, &head)? == early
+                && self.verdict(alloc, chain, &head, b"", false)? == early
+                && self.verdict(alloc, chain, &head, b"<p", false)? == want
+                && self.verdict(alloc, chain, &head, b"<p", true)? == want,
+        )
+    }
 }
