@@ -4,7 +4,7 @@ use Rattle.std.specs.Prelude.{All}
 use Rattle.std.proofs.lemmas.List.Elements.{All-nil, All-weaker}
 use Rattle.script_model.specs.ActionLimits.{IsAction, IsActionAmong}
 use Rattle.script_model.specs.declared.action.Action.{Action}
-use Rattle.script_input.specs.Resources.{AreActions}
+use Rattle.script_input.specs.ForProofs.{AreActions}
 
 pub are_actions : (count : ℕ) (actions : List Action) → length actions ≤ 64 → All (λ action. IsAction action × IsActionAmong count action) actions → AreActions count actions
 are_actions count actions few all = record {

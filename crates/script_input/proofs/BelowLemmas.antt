@@ -1,9 +1,10 @@
 -- What is read below a step of the path.
-use Rattle.std.proofs.Common.{◌≡◌, ℕ, List, Ok, Err, Result, sym, ap, subst, ◌⊎◌, ⊎_elim}
+use Rattle.std.proofs.Common.{ℕ, List, Ok, Err, Result, sym, ap, subst, ⊎_elim}
 use Rattle.script_input.specs.declared.refusal.ScriptStop.{ScriptStop}
 use Rattle.script_input.specs.declared.refusal.ScriptStop.TheVariants.{Refused, NoMemory}
 use Rattle.script_input.specs.Checked.{Checked, below}
-use Rattle.script_input.specs.Answers.{GivesBy, IsBehind, IsBelow, Stops}
+use Rattle.script_input.specs.Answers.{GivesBy, Stops}
+use Rattle.script_input.specs.ForProofs.{IsBehind, IsBelow}
 
 stops_behind : {A : Type 0} (step : List ℕ) (s t : ScriptStop) (reading : Checked A) → IsBehind step s t → Stops s reading → Stops t (below step reading)
 stops_behind step (Refused r) t reading is stops =

@@ -1,6 +1,6 @@
 -- Cuts that are read one after another.
 use Rattle.std.proofs.Common.{◌≡◌, ◌<◌, ℕ, ◌+◌, ◌-◌, List, [], ◌∷◌, ◌++◌, ◌≤◌, length, length-append, refl, arith, inl, inr}
-use Rattle.std.specs.Prelude.{All, slice_index}
+use Rattle.std.specs.Prelude.{slice_index}
 use Rattle.std.specs.List.Sorted.{IsStrictlyIncreasing}
 use Rattle.std.proofs.lemmas.List.Elements.{All-nil, All-push}
 use Rattle.std.proofs.lemmas.Bool.{cases_lt}
@@ -8,7 +8,8 @@ use Rattle.std.proofs.lemmas.List.{get_or_append_left}
 use Rattle.std.proofs.lemmas.Option.{unwrap_or-slice_get}
 use Rattle.std.proofs.Math.Seq.{get_or-append_seam}
 use Rattle.script_model.specs.ResourceData.{IsCuts}
-use Rattle.script_input.specs.Bodies.{AreCuts, last_cut}
+use Rattle.script_input.specs.Bodies.{last_cut}
+use Rattle.script_input.specs.ForProofs.{AreCuts}
 
 pub no_cuts : (size : ℕ) → AreCuts size []
 no_cuts size = record { rising = λ k h. absurd (omega arith); within = All-nil (λ cut. (0 < cut) × (cut < size)) }

@@ -5,7 +5,7 @@ use Rattle.std.proofs.lemmas.List.Elements.{All-cons, All-head, All-nil, All-pus
 use Rattle.std.proofs.lemmas.List.Sums.{sum_by-cons}
 use Rattle.http_header.specs.HeaderMap.{Entries, Entry, append, append_all, value_count}
 use Rattle.script_model.specs.ResourceData.{IsHeader, IsHeaders}
-use Rattle.script_input.specs.Headers.{IsShort}
+use Rattle.script_input.specs.ForProofs.{IsShort}
 
 count_cons : (e : Entry (List ℕ)) (m : Entries (List ℕ)) → value_count (e ∷ m) ≡ length e.1 + value_count m
 count_cons e m = sum_by-cons (λ (e : Entry (List ℕ)). length e.1) e m

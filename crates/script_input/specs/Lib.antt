@@ -13,4 +13,4 @@ pub mod Headers
 pub mod Bodies
 pub mod Resources
 pub mod ScriptReading
-pub mod Kept
+pub mod ForProofs

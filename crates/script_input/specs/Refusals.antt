@@ -1,5 +1,5 @@
 -- Refusals of scripts: a code, where it stands, and a line. Own format.
-use Rattle.std.specs.Prelude.{ℕ, ◌==◌, List, [], ◌∷◌, ◌++◌, codes, decimal, if◌then◌else◌}
+use Rattle.std.specs.Prelude.{ℕ, ◌==◌, List, [], ◌∷◌, ◌++◌, codes, decimal, length, if◌then◌else◌}
 use Rattle.script_input.specs.declared.refusal.Refusal.{Refusal}
 
 -- X1: the bytes are not JSON
@@ -44,8 +44,7 @@ behind step r = record { code = r.code; path = 47 ∷ step ++ r.path; line = r.l
 
 -- a path behind a space; nothing of an empty one
 abbrev pub path_part : List ℕ → List ℕ
-path_part [] = []
-path_part (b ∷ path) = 32 ∷ b ∷ path
+path_part path = if length path == 0 then [] else codes " " ++ path
 
 -- the number of a line; nothing of 0, which stands for none
 abbrev pub line_part : ℕ → List ℕ

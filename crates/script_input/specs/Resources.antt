@@ -19,7 +19,7 @@ use Rattle.script_input.specs.Actions.{action_at}
 
 -- this is the key of one of these resources
 abbrev pub is_key_of : List ResourceData → List ℕ → Bool
-is_key_of resources key = list_any (λ r. bytes_eq key (resource_key r)) resources
+is_key_of resources key = list_any (λ r. bytes_eq (resource_key r) key) resources
 
 -- the URL of a resource: of class Web, AboutBlank or DataUrl, else X3; of a key that is not taken, else X7
 unfoldable pub url_at : (List ℕ → Bool) → Data → Checked (List ℕ)

@@ -37,6 +37,10 @@ rules_of (Err NoMemory) = Err (rule_refusal 0)
 unfoldable pub rules_in : Data → Checked (List SuffixRule)
 rules_in d = suffixes_in d >>= λ text. rules_of (reading text)
 
+-- the soft limit, 64 where it is left out
+unfoldable pub soft_limit_in : Data → Checked ℕ
+soft_limit_in d = optional (codes "soft_limit") (integer_within 0 64) d >>= λ n. Ok (unwrap_or n 64)
+
 -- at most 64 URLs of class Web
 abbrev pub start_at : Data → Checked (List (List ℕ))
 start_at = list_at (λ before. web_at) 64
@@ -60,7 +64,7 @@ script_at d = do
   _ ← object_at (codes "start" ∷ []) script_keys d
   rules ← rules_in d
   spare ← optional (codes "spare") bool_at d
-  soft_limit ← optional (codes "soft_limit") (integer_within 0 64) d
+  soft_limit ← soft_limit_in d
   start ← required (codes "start") start_at d
   resources ← resources_in d
   isolated ← isolated_in d
@@ -68,7 +72,7 @@ script_at d = do
     policy = Two;
     rules = record { suffixes = rules; isolated = isolated };
     spare = unwrap_or spare false;
-    soft_limit = unwrap_or soft_limit 64;
+    soft_limit = soft_limit;
     start = start;
     resources = resources;
   })

@@ -120,14 +120,14 @@ impl ItemReader for CutOf {
     type Item = u32;
 
     ghost use Rattle.script_input.specs.Bodies as spec;
-    ghost use Rattle.script_input.specs.Kept.{AreCuts};
+    ghost use Rattle.script_input.specs.ForProofs.{AreCuts};
 
     ghost item_reading = { λ body. spec.cut_at body.size };
 
     ghost listed = { λ body cuts. AreCuts body.size cuts };
 
     #[tactic(auto, using(crate::proofs::CutLimits::one_more_cut))]
-    fn item(&mut self, alloc: Global, before: &[u32], value: &Value) -> Result<u32, ScriptStop> {
+    fn item(&self, alloc: Global, before: &[u32], value: &Value) -> Result<u32, ScriptStop> {
         cut_at(alloc, self.size, before, value)
     }
 }
@@ -150,7 +150,7 @@ impl Reader for CutsOf {
 
     #[tactic(auto, using(crate::proofs::CutLimits::no_cuts, crate::proofs::CutLimits::are_cuts))]
     fn read(&self, alloc: Global, value: &Value) -> Result<Cuts, ScriptStop> {
-        let cuts = list_at(alloc, &mut CutOf { size: self.size }, MAX_CUTS, value)?;
+        let cuts = list_at(alloc, &CutOf { size: self.size }, MAX_CUTS, value)?;
         Ok(Cuts::from_vec(cuts))
     }
 }

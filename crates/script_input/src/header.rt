@@ -9,7 +9,7 @@ ghost use Rattle.serde_json.specs.View.{view, items_view};
 ghost use Rattle.script_input.specs.Answers.{Gives};
 ghost use Rattle.script_input.specs.Checked.{check};
 ghost use Rattle.script_input.specs.Headers as spec;
-ghost use Rattle.script_input.specs.Kept.{IsShort};
+ghost use Rattle.script_input.specs.ForProofs.{IsShort};
 ghost use Rattle.script_input.specs.Refusals.{bad_header};
 
 use crate::list::{Each, list_at};
@@ -104,7 +104,7 @@ impl Reader for Pair {
     type Read = Header;
 
     ghost use Rattle.script_input.specs.Headers as spec;
-    ghost use Rattle.script_input.specs.Kept.{IsShort};
+    ghost use Rattle.script_input.specs.ForProofs.{IsShort};
 
     ghost reading = { λ _. spec.header_at };
 
@@ -158,7 +158,7 @@ impl Reader for Headers {
 
     #[tactic(auto, unfolding(crate::specs::Headers::headers_at), using(crate::proofs::HeaderLimits::few_headers))]
     fn read(&self, alloc: Global, value: &Value) -> Result<HeaderMap<FieldText>, ScriptStop> {
-        let headers = list_at(alloc, &mut Each(Pair), MAX_HEADERS, value)?;
+        let headers = list_at(alloc, &Each(Pair), MAX_HEADERS, value)?;
         Ok(fields_of(alloc, headers)?)
     }
 }

@@ -22,15 +22,14 @@ pub trait ItemReader {
     ghost listed: { Self → List Self.Item → Type 0 };
 
     fn item(
-        &mut self,
+        &self,
         alloc: Global,
         before: &[Self::Item],
         value: &Value,
     ) -> Result<Self::Item, ScriptStop>
-        requires { listed self.old before.now }
-        ensures gives { Gives result (item_reading self.old before.now (view value.now)) }
-        ensures listed { IfOk result (λ x. listed self.new (before.now ++ x ∷ [])) }
-        ensures same { item_reading self.new ≡ item_reading self.old };
+        requires { listed self.now before.now }
+        ensures gives { Gives result (item_reading self.now before.now (view value.now)) }
+        ensures listed { IfOk result (λ x. listed self.now (before.now ++ x ∷ [])) };
 }
 
 /// Items that are read without regard to those before them.
@@ -48,7 +47,7 @@ impl<R: Reader> ItemReader for Each<R> {
 
     #[tactic(auto, using(crate::proofs::ItemsLemmas::all_more))]
     fn item(
-        &mut self,
+        &self,
         alloc: Global,
         _before: &[R::Read],
         value: &Value,
@@ -60,15 +59,14 @@ impl<R: Reader> ItemReader for Each<R> {
 #[tactic(auto, using(crate::proofs::BelowLemmas::below_gives))]
 fn item_at<R: ItemReader>(
     alloc: Global,
-    reader: &mut R,
+    reader: &R,
     before: &[R::Item],
     index: usize,
     value: &Value,
 ) -> Result<R::Item, ScriptStop>
-    requires { R.listed reader.old before.now }
-    ensures gives { Gives result (checked.below (decimal index) (R.item_reading reader.old before.now (view value.now))) }
-    ensures listed { IfOk result (λ x. R.listed reader.new (before.now ++ x ∷ [])) }
-    ensures same { R.item_reading reader.new ≡ R.item_reading reader.old }
+    requires { R.listed reader.now before.now }
+    ensures gives { Gives result (checked.below (decimal index) (R.item_reading reader.now before.now (view value.now))) }
+    ensures listed { IfOk result (λ x. R.listed reader.now (before.now ++ x ∷ [])) }
 {
     let step = format!(in alloc; "{index}")?;
     below(alloc, step.as_str(), reader.item(alloc, before, value))
@@ -76,12 +74,12 @@ fn item_at<R: ItemReader>(
 
 fn items<R: ItemReader>(
     alloc: Global,
-    reader: &mut R,
+    reader: &R,
     values: &[Value],
 ) -> Result<Vec<R::Item>, ScriptStop>
-    requires { R.listed reader.old [] }
-    ensures gives { GivesBy (λ v. v.items) result (spec.items_from (R.item_reading reader.old) [] 0 (items_view values.now)) }
-    ensures listed { IfOk result (λ v. R.listed reader.new v.items) }
+    requires { R.listed reader.now [] }
+    ensures gives { GivesBy (λ v. v.items) result (spec.items_from (R.item_reading reader.now) [] 0 (items_view values.now)) }
+    ensures listed { IfOk result (λ v. R.listed reader.now v.items) }
     ensures count { IfOk result (λ v. length v.items ≡ length values.now) }
 {
     let mut items = Vec::new(alloc);
@@ -96,13 +94,13 @@ fn items<R: ItemReader>(
 #[tactic(auto, unfolding(crate::specs::Lists::list_at), using(crate::proofs::ItemsLemmas::item_count_view))]
 pub fn list_at<R: ItemReader>(
     alloc: Global,
-    reader: &mut R,
+    reader: &R,
     most: usize,
     value: &Value,
 ) -> Result<Vec<R::Item>, ScriptStop>
-    requires { R.listed reader.old [] }
-    ensures gives { GivesBy (λ v. v.items) result (spec.list_at (R.item_reading reader.old) most (view value.now)) }
-    ensures listed { IfOk result (λ v. R.listed reader.new v.items) }
+    requires { R.listed reader.now [] }
+    ensures gives { GivesBy (λ v. v.items) result (spec.list_at (R.item_reading reader.now) most (view value.now)) }
+    ensures listed { IfOk result (λ v. R.listed reader.now v.items) }
     ensures few { IfOk result (λ v. length v.items ≤ most) }
     ensures count { IfOk result (λ v. length v.items ≡ spec.count_of (view value.now)) }
 {

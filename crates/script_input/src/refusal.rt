@@ -3,7 +3,7 @@
 ghost use Rattle.std.specs.Prelude.{◌≡◌, ◌∷◌, ◌++◌, [], IfOk, Some};
 ghost use Rattle.script_input.specs.declared.refusal.ScriptStop.TheVariants as stops;
 ghost use Rattle.script_input.specs.Refusals as spec;
-ghost use Rattle.script_input.specs.Answers.{IsBehind};
+ghost use Rattle.script_input.specs.ForProofs.{IsBehind};
 
 use script_model::NoMemory;
 use std::alloc::{AllocError, AllocFailed, Global};
@@ -111,19 +111,45 @@ impl Refusal {
     }
 }
 
+/// A path behind a space, and nothing of an empty one.
+#[derive(Drop)]
+struct PathPart<'a>(&'a str);
+
+impl fmt::Display for PathPart<'_> {
+    ghost output = { λ path. Some (spec.path_part path.0.now) };
+
+    fn fmt<W: fmt::Write>(&self, f: &mut fmt::Formatter<W>) -> fmt::Result {
+        if self.0.is_empty() {
+            return Ok(());
+        }
+        write!(f, " {}", self.0)
+    }
+}
+
+/// The number of a line, and nothing of 0.
+#[derive(Drop)]
+struct LinePart(u32);
+
+impl fmt::Display for LinePart {
+    ghost output = { λ line. Some (spec.line_part line.0) };
+
+    fn fmt<W: fmt::Write>(&self, f: &mut fmt::Formatter<W>) -> fmt::Result {
+        if self.0 == 0 {
+            return Ok(());
+        }
+        write!(f, " line {}", self.0)
+    }
+}
+
 /// `refused X2 /start/0`, `refused X4 line 3` or `refused X1`.
 impl fmt::Display for Refusal {
     ghost output = { λ refusal. Some (spec.refusal_text refusal) };
 
+    #[tactic(auto, unfolding(crate::specs::Refusals::refusal_text))]
     fn fmt<W: fmt::Write>(&self, f: &mut fmt::Formatter<W>) -> fmt::Result {
-        write!(f, "refused X{}", self.code)?;
-        if !self.path.as_str().is_empty() {
-            write!(f, " {}", self.path.as_str())?;
-        }
-        if self.line > 0 {
-            write!(f, " line {}", self.line)?;
-        }
-        Ok(())
+        let path = PathPart(self.path.as_str());
+        let line = LinePart(self.line);
+        write!(f, "refused X{}{path}{line}", self.code)
     }
 }
 

@@ -1,28 +1,30 @@
 //! Resources of a script.
 
-ghost use Rattle.std.specs.Prelude.{◌≡◌, ◌≤◌, All, IfOk, false, length};
+ghost use Rattle.std.specs.Prelude.{◌≡◌, ◌≤◌, ◌||◌, All, IfOk, List, OnOk, [], bytes_eq, decimal, false, length, ℕ};
 ghost use Rattle.std.specs.HashSet.{contains_text};
-ghost use Rattle.serde_json.specs.View.{view};
+ghost use Rattle.serde_json.specs.View.{view, items_view};
 ghost use Rattle.script_model.specs.ActionLimits.{IsActionAmong};
 ghost use Rattle.script_model.specs.ResourceData.{IsHeaders, is_resource_class};
 ghost use Rattle.script_model.specs.ScriptData.{resource_key};
 ghost use Rattle.script_input.specs.Answers.{Gives, GivesBy};
-ghost use Rattle.script_input.specs.Kept.{AreActions, AreResources};
+ghost use Rattle.script_input.specs.Checked as checked;
+ghost use Rattle.script_input.specs.ForProofs.{AreActions, AreResources};
+ghost use Rattle.script_input.specs.Lists.{items_from};
 ghost use Rattle.script_input.specs.Resources as spec;
 
 use crate::action::action_at;
 use crate::body::{delivery_in, one_body};
 use crate::header::Headers;
-use crate::list::{Each, ItemReader, list_at};
+use crate::list::{Each, list_at};
 use crate::object::{object_at, optional, required};
 use crate::refusal::{PAST_LIMIT, SAME_KEY, ScriptStop, WRONG_SHAPE, WRONG_URL, refused};
 use crate::text::string_at;
 use crate::urls::url_of;
-use crate::value::{Integer, Reader};
+use crate::value::{Integer, Reader, below};
 use http::StatusCode;
 use http_header::HeaderMap;
 use script_model::limits::{MAX_ACTIONS, MAX_RESOURCES};
-use script_model::{Action, Actions, Head, PageUrl, Resource, Resources, UrlClass};
+use script_model::{Action, Actions, Head, NoMemory, PageUrl, Resource, Resources, UrlClass};
 use serde_json::Value;
 use std::alloc::Global;
 use std::collections::HashSet;
@@ -35,6 +37,28 @@ fn is_resource_class(class: UrlClass) -> bool
         UrlClass::Web | UrlClass::AboutBlank | UrlClass::DataUrl => true,
         UrlClass::AboutSrcdoc | UrlClass::Foreign => false,
     }
+}
+
+/// What a resource is found by.
+fn key_of(resource: &Resource) -> &str
+    ensures { result.now ≡ resource_key resource.now }
+{
+    resource.url.key()
+}
+
+/// Whether one of these keys is this one.
+fn is_taken(taken: &HashSet<String>, key: &str) -> bool
+    ensures { result ≡ contains_text taken.now key.now }
+{
+    taken.contains(key)
+}
+
+/// Puts a key to those that are taken.
+fn take(alloc: Global, taken: &mut HashSet<String>, key: &str) -> Result<(), NoMemory>
+    ensures { OnOk result ((other : List ℕ) → contains_text taken.new other ≡ (bytes_eq key.now other || contains_text taken.old other)) }
+{
+    taken.insert(String::from_str(alloc, key)?)?;
+    Ok(())
 }
 
 /// The URL of a resource, whose key is none of those that are taken.
@@ -63,7 +87,7 @@ impl Reader for NewUrl<'_> {
         if !is_resource_class(url.class()) {
             return Err(refused(alloc, WRONG_URL));
         }
-        if self.taken.contains(url.key()) {
+        if is_taken(self.taken, url.key()) {
             return Err(refused(alloc, SAME_KEY));
         }
         Ok(url)
@@ -139,7 +163,7 @@ struct ActionsAmong {
 impl Reader for ActionsAmong {
     type Read = Actions;
 
-    ghost use Rattle.script_input.specs.Kept.{AreActions};
+    ghost use Rattle.script_input.specs.ForProofs.{AreActions};
     ghost use Rattle.script_input.specs.Resources as spec;
 
     ghost reading = { λ limit. spec.actions_at limit.count };
@@ -149,7 +173,7 @@ impl Reader for ActionsAmong {
     #[tactic(auto, using(crate::proofs::ActionLimits::are_actions, crate::proofs::ActionLimits::no_action))]
     fn read(&self, alloc: Global, value: &Value) -> Result<Actions, ScriptStop> {
         let among = ActionAmong { count: self.count };
-        let actions = list_at(alloc, &mut Each(among), MAX_ACTIONS, value)?;
+        let actions = list_at(alloc, &Each(among), MAX_ACTIONS, value)?;
         Ok(Actions::from_vec(actions))
     }
 }
@@ -201,52 +225,54 @@ fn resource_at(
     })
 }
 
-/// One resource, in a script of so many, with the keys of those before it.
-#[derive(Drop)]
-struct ResourceAmong {
+/// The resource at an index, in a script of so many, of a key that is not taken.
+#[tactic(auto, using(crate::proofs::BelowLemmas::below_gives))]
+fn nth_resource(
+    alloc: Global,
+    index: usize,
     count: u32,
-    keys: HashSet<String>,
+    taken: &HashSet<String>,
+    value: &Value,
+) -> Result<Resource, ScriptStop>
+    ensures gives { Gives result (checked.below (decimal index) (spec.resource_at count (contains_text taken.now) (view value.now))) }
+    ensures new_key { IfOk result (λ resource. contains_text taken.now (resource_key resource) ≡ false) }
+    ensures among { IfOk result (λ resource. All (IsActionAmong count) resource.actions) }
+{
+    let step = format!(in alloc; "{index}")?;
+    below(
+        alloc,
+        step.as_str(),
+        resource_at(alloc, count, taken, value),
+    )
 }
 
-impl ItemReader for ResourceAmong {
-    type Item = Resource;
-
-    ghost use Rattle.std.specs.Prelude.{◌≡◌};
-    ghost use Rattle.std.specs.HashSet.{contains_text};
-    ghost use Rattle.script_input.specs.Kept.{AreResources};
-    ghost use Rattle.script_input.specs.Resources as spec;
-
-    ghost item_reading = { λ among before. spec.resource_at among.count (spec.is_key_of before) };
-
-    ghost listed = { λ among before. AreResources among.count before × (contains_text among.keys ≡ spec.is_key_of before) };
-
-    fn item(
-        &mut self,
-        alloc: Global,
-        _before: &[Resource],
-        value: &Value,
-    ) -> Result<Resource, ScriptStop> {
-        let resource = resource_at(alloc, self.count, &self.keys, value)?;
-        let key = String::from_str(alloc, resource.url.key())?;
-        self.keys.insert(key)?;
-        Ok(resource)
+/// All resources of a script; to each the keys of those before it are taken.
+#[tactic(auto, using(crate::proofs::ResourceLimits::one_more_key, crate::proofs::ResourceLimits::one_more_resource))]
+fn all_resources(alloc: Global, values: &[Value]) -> Result<Vec<Resource>, ScriptStop>
+    requires { length values.now ≤ 1024 }
+    ensures gives { GivesBy (λ resources. resources.items) result (items_from (λ before. spec.resource_at (length values.now) (spec.is_key_of before)) [] 0 (items_view values.now)) }
+    ensures keeps { IfOk result (λ resources. AreResources (length values.now) resources.items) }
+    ensures count { IfOk result (λ resources. length resources.items ≡ length values.now) }
+{
+    let count = values.len() as u32;
+    let mut resources = Vec::new(alloc);
+    let mut taken = HashSet::new(alloc);
+    for (i, value) in values.iter().enumerate() {
+        let resource = nth_resource(alloc, i, count, &taken, value)?;
+        take(alloc, &mut taken, key_of(&resource))?;
+        resources.push(resource)?;
     }
+    Ok(resources)
 }
 
-#[tactic(auto, unfolding(crate::specs::Resources::resources_at, crate::specs::Lists::list_at), using(crate::proofs::ItemsLemmas::item_count_view, crate::proofs::ResourceLimits::no_resources))]
+#[tactic(auto, unfolding(crate::specs::Resources::resources_at, crate::specs::Lists::list_at), using(crate::proofs::ItemsLemmas::item_count_view))]
 fn resources_at(alloc: Global, value: &Value) -> Result<Vec<Resource>, ScriptStop>
     ensures gives { GivesBy (λ resources. resources.items) result (spec.resources_at (view value.now)) }
     ensures few { IfOk result (λ resources. length resources.items ≤ 1024) }
     ensures keeps { IfOk result (λ resources. AreResources (length resources.items) resources.items) }
 {
     match value.as_array() {
-        Some(values) if values.len() <= MAX_RESOURCES => {
-            let mut among = ResourceAmong {
-                count: values.len() as u32,
-                keys: HashSet::new(alloc),
-            };
-            list_at(alloc, &mut among, MAX_RESOURCES, value)
-        }
+        Some(values) if values.len() <= MAX_RESOURCES => all_resources(alloc, values.as_slice()),
         Some(_) => Err(refused(alloc, PAST_LIMIT)),
         None => Err(refused(alloc, WRONG_SHAPE)),
     }
@@ -259,7 +285,7 @@ impl Reader for AllResources {
     type Read = Resources;
 
     ghost use Rattle.std.specs.Prelude.{◌≤◌, length};
-    ghost use Rattle.script_input.specs.Kept.{AreResources};
+    ghost use Rattle.script_input.specs.ForProofs.{AreResources};
     ghost use Rattle.script_input.specs.Resources as spec;
 
     ghost reading = { λ _. spec.resources_at };

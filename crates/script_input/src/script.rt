@@ -1,6 +1,6 @@
 //! The script that bytes are.
 
-ghost use Rattle.std.specs.Prelude.{◌≡◌};
+ghost use Rattle.std.specs.Prelude.{◌≡◌, ◌≤◌, IfOk};
 ghost use Rattle.public_suffix.specs.Reading.{reading};
 ghost use Rattle.serde_json.specs.Read.{read};
 ghost use Rattle.serde_json.specs.View.{view};
@@ -14,13 +14,12 @@ use crate::resource::resources_in;
 use crate::text::text_within;
 use crate::urls::{TupleUrl, WebUrl};
 use crate::value::{Boolean, Integer, Reader, below};
-use script_model::limits::{MAX_ISOLATED, MAX_START};
+use script_model::limits::{
+    MAX_ISOLATED_ORIGINS, MAX_SOFT_LIMIT, MAX_START_PAGES, MAX_SUFFIX_TEXT,
+};
 use script_model::{PageUrls, Policy, Rules, RulesRefusal, Script, SiteRules, TupleOrigin};
 use serde_json::Value;
 use std::alloc::Global;
-
-/// The most bytes of the text of suffix rules, of which a script keeps only the rules.
-const MAX_SUFFIXES: usize = 1_048_576;
 
 /// The text of suffix rules, empty where it is left out.
 #[tactic(auto, unfolding(crate::specs::ScriptReading::suffixes_in, crate::specs::Objects::optional), using(crate::proofs::BelowLemmas::below_gives))]
@@ -31,7 +30,7 @@ fn suffixes_in(alloc: Global, value: &Value) -> Result<&str, ScriptStop>
         Some(found) => below(
             alloc,
             "suffixes",
-            text_within(alloc, 0, MAX_SUFFIXES, found),
+            text_within(alloc, 0, MAX_SUFFIX_TEXT, found),
         ),
         None => Ok(""),
     }
@@ -55,6 +54,20 @@ fn rules_in(alloc: Global, value: &Value) -> Result<Rules, ScriptStop>
     rules_of(alloc, text)
 }
 
+/// From how many processes on they are shared, 64 where it is left out.
+#[tactic(auto, unfolding(crate::specs::ScriptReading::soft_limit_in))]
+fn soft_limit_in(alloc: Global, value: &Value) -> Result<u32, ScriptStop>
+    ensures gives { Gives result (spec.soft_limit_in (view value.now)) }
+    ensures low { IfOk result (λ limit. limit ≤ 64) }
+{
+    let limits = Integer {
+        least: 0,
+        most: MAX_SOFT_LIMIT,
+    };
+    let limit = optional(alloc, "soft_limit", &limits, value)?;
+    Ok(limit.unwrap_or(MAX_SOFT_LIMIT))
+}
+
 /// The start pages.
 struct StartPages;
 
@@ -71,7 +84,7 @@ impl Reader for StartPages {
     ghost keeps = { λ _ urls. (length urls ≤ 64) × All (λ url. class_of url ≡ Web) urls };
 
     fn read(&self, alloc: Global, value: &Value) -> Result<PageUrls, ScriptStop> {
-        let urls = list_at(alloc, &mut Each(WebUrl), MAX_START, value)?;
+        let urls = list_at(alloc, &Each(WebUrl), MAX_START_PAGES, value)?;
         Ok(PageUrls::from_vec(urls))
     }
 }
@@ -85,7 +98,7 @@ fn isolated_in(alloc: Global, value: &Value) -> Result<Vec<TupleOrigin>, ScriptS
         Some(found) => below(
             alloc,
             "isolated_origins",
-            list_at(alloc, &mut Each(TupleUrl), MAX_ISOLATED, found),
+            list_at(alloc, &Each(TupleUrl), MAX_ISOLATED_ORIGINS, found),
         ),
         None => Ok(Vec::new(alloc)),
     }
@@ -106,7 +119,7 @@ fn script_at(alloc: Global, value: &Value) -> Result<Script, ScriptStop>
     object_at(alloc, &["start"], &keys, value)?;
     let rules = rules_in(alloc, value)?;
     let spare = optional(alloc, "spare", &Boolean, value)?;
-    let soft_limit = optional(alloc, "soft_limit", &Integer { least: 0, most: 64 }, value)?;
+    let soft_limit = soft_limit_in(alloc, value)?;
     let start = required(alloc, "start", &StartPages, value)?;
     let resources = resources_in(alloc, value)?;
     let isolated = isolated_in(alloc, value)?;
@@ -114,7 +127,7 @@ fn script_at(alloc: Global, value: &Value) -> Result<Script, ScriptStop>
         policy: Policy::Two,
         rules: SiteRules::new(rules, isolated),
         spare: spare.unwrap_or(false),
-        soft_limit: soft_limit.unwrap_or(64),
+        soft_limit,
         start,
         resources,
     })

@@ -3,8 +3,9 @@
 ghost use Rattle.std.specs.Prelude.{IfOk};
 ghost use Rattle.serde_json.specs.Data.{Data};
 ghost use Rattle.serde_json.specs.View.{view};
-ghost use Rattle.script_input.specs.Answers.{Gives, IsBelow};
+ghost use Rattle.script_input.specs.Answers.{Gives};
 ghost use Rattle.script_input.specs.Checked.{Checked};
+ghost use Rattle.script_input.specs.ForProofs.{IsBelow};
 
 use crate::refusal::{PAST_LIMIT, ScriptStop, WRONG_SHAPE, behind, refused};
 use serde_json::Value;

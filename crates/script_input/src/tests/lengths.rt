@@ -207,7 +207,11 @@ fn told_resources(alloc: Global, count: u32, last: &str) -> Result<String, Fail>
 #[test]
 fn a_script_has_at_most_1024_resources_each_of_its_own_key(rt: HostRuntime) -> Result<(), Fail> {
     let found = told_resources(rt.alloc(), 1023, "https://a.com/last#x")?;
-    assert!(rt; found.as_str().ends_with("https://a.com/1022 resource https://a.com/last#x"));
+    assert!(rt;
+        found
+            .as_str()
+            .ends_with("https://a.com/1022 resource https://a.com/last#x")
+    );
     for (count, last, want) in [
         (1023, "https://a.com/0#x", "X7 /resources/1023/url"),
         (1023, "https://a.com/1022", "X7 /resources/1023/url"),

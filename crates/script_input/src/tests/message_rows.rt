@@ -12,7 +12,10 @@ const MESSAGES: &[(&str, &str)] = &[
     (r#"{"is":"navigate","url":"x"}"#, "X2 @/frame"),
     (r#"{"is":"navigate","frame":0}"#, "X2 @/url"),
     (r#"{"is":"navigate","frame":0,"x":1}"#, "X2 @/url"),
-    (r#"{"is":"navigate","frame":"self","url":"x"}"#, "X2 @/frame"),
+    (
+        r#"{"is":"navigate","frame":"self","url":"x"}"#,
+        "X2 @/frame",
+    ),
     (
         r#"{"is":"navigate","frame":4294967295,"url":"x"}"#,
         "own as own navigate 4294967295 x",
@@ -80,7 +83,10 @@ const MESSAGES: &[(&str, &str)] = &[
     ),
     (r#"{"is":"remove","frame":0}"#, "own as own remove 0"),
     (r#"{"is":"remove","child":0}"#, "X2 @/frame"),
-    (r#"{"is":"remove","frame":"x","document":"x"}"#, "X2 @/document"),
+    (
+        r#"{"is":"remove","frame":"x","document":"x"}"#,
+        "X2 @/document",
+    ),
     (r#"{"is":"remove","frame":4294967296}"#, "X6 @/frame"),
     (r#"{"is":"page"}"#, "X2 @/url"),
     (r#"{"is":"page","url":"u","document":0}"#, "0 as own page u"),

@@ -72,14 +72,8 @@ const KEYS: &[(&str, &str)] = &[
     (r#""soft_limit":63"#, "read soft_limit 63"),
     (r#""soft_limit":64"#, "read"),
     (r#""soft_limit":65"#, "X6 /soft_limit"),
-    (
-        r#""soft_limit":18446744073709551615"#,
-        "X6 /soft_limit",
-    ),
-    (
-        r#""soft_limit":18446744073709551616"#,
-        "X2 /soft_limit",
-    ),
+    (r#""soft_limit":18446744073709551615"#, "X6 /soft_limit"),
+    (r#""soft_limit":18446744073709551616"#, "X2 /soft_limit"),
     (r#""soft_limit":1.5"#, "X2 /soft_limit"),
     (r#""soft_limit":1.0"#, "X2 /soft_limit"),
     (r#""soft_limit":1e2"#, "X2 /soft_limit"),

@@ -68,11 +68,7 @@ fn shown_post(
     Ok(format!(in alloc; "post {frame} {target} {text}")?)
 }
 
-fn shown_ask(
-    alloc: Global,
-    service: &ServiceName,
-    request: &RequestText,
-) -> Result<String, Fail> {
+fn shown_ask(alloc: Global, service: &ServiceName, request: &RequestText) -> Result<String, Fail> {
     let service = service.as_str();
     let request = request.as_str();
     Ok(format!(in alloc; "ask {service} {request}")?)
@@ -103,7 +99,9 @@ fn shown_body(alloc: Global, body: &RawBody) -> Result<String, Fail> {
             shown_post(alloc, frame.as_str(), target, text)
         }
         RawBody::Ask {
-            service, request, ..
+            service,
+            request,
+            ..
         } => shown_ask(alloc, service, request),
         RawBody::Commit { nav, url, .. } => {
             let nav = nav.to_string(alloc)?;

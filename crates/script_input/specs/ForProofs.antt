@@ -1,11 +1,23 @@
--- For proofs: what is kept of lists while their items are read, one after another.
-use Rattle.std.specs.Prelude.{◌≡◌, ◌≢◌, ◌≤◌, ◌<◌, All, AllPairs, ℕ, List, length}
-use Rattle.std.specs.HashSet.{HashSet, contains_text}
+-- For proofs: how private functions hand refusals on, and what is kept of lists while their items are read, one after another.
+use Rattle.std.specs.Prelude.{◌≡◌, ◌≢◌, ◌≤◌, ◌<◌, All, AllPairs, ℕ, List, length, ◌⊎◌, Result, Ok, Err}
 use Rattle.std.specs.List.Sorted.{IsStrictlyIncreasing}
 use Rattle.script_model.specs.ActionLimits.{IsAction, IsActionAmong}
 use Rattle.script_model.specs.ResourceData.{ResourceData}
 use Rattle.script_model.specs.ScriptData.{resource_key}
 use Rattle.script_model.specs.declared.action.Action.{Action}
+use Rattle.script_input.specs.declared.refusal.ScriptStop.{ScriptStop}
+use Rattle.script_input.specs.declared.refusal.ScriptStop.TheVariants.{Refused, NoMemory}
+use Rattle.script_input.specs.Refusals.{behind}
+
+-- memory ran out, or the same refusal, seen from one step further up
+abbrev pub IsBehind : List ℕ → ScriptStop → ScriptStop → Type 0
+IsBehind step (Refused r) new = (new ≡ NoMemory) ⊎ (new ≡ Refused (behind step r))
+IsBehind step NoMemory new = new ≡ NoMemory
+
+-- the outcome, with its refusal seen from one step further up
+abbrev pub IsBelow : {X : Type 0} → List ℕ → Result X ScriptStop → Result X ScriptStop → Type 0
+IsBelow step (Ok x) result = result ≡ Ok x
+IsBelow step (Err stop) result = (new : ScriptStop) × (result ≡ Err new) × IsBehind step stop new
 
 -- a name and a value of a header within their limits
 pub record IsShort (header : List ℕ × List ℕ) : Type 0 where
