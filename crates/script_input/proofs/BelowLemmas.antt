@@ -1,5 +1,5 @@
 -- What is read below a step of the path.
-use Rattle.std.proofs.Common.{◌≡◌, ℕ, List, Ok, Err, Result, sym, ap, subst, ◌⊎◌, ⊎_elim}
+use Rattle.std.proofs.Common.{ℕ, List, Ok, Err, Result, sym, ap, subst, ⊎_elim}
 use Rattle.script_input.specs.declared.refusal.ScriptStop.{ScriptStop}
 use Rattle.script_input.specs.declared.refusal.ScriptStop.TheVariants.{Refused, NoMemory}
 use Rattle.script_input.specs.Checked.{Checked, below}

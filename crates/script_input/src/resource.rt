@@ -39,6 +39,13 @@ fn is_resource_class(class: UrlClass) -> bool
     }
 }
 
+/// What a resource is found by.
+fn key_of(resource: &Resource) -> &str
+    ensures { result.now ≡ resource_key resource.now }
+{
+    resource.url.key()
+}
+
 /// Whether one of these keys is this one.
 fn is_taken(taken: &HashSet<String>, key: &str) -> bool
     ensures { result ≡ contains_text taken.now key.now }
@@ -252,7 +259,7 @@ fn all_resources(alloc: Global, values: &[Value]) -> Result<Vec<Resource>, Scrip
     let mut taken = HashSet::new(alloc);
     for (i, value) in values.iter().enumerate() {
         let resource = nth_resource(alloc, i, count, &taken, value)?;
-        take(alloc, &mut taken, resource.url.key())?;
+        take(alloc, &mut taken, key_of(&resource))?;
         resources.push(resource)?;
     }
     Ok(resources)
