@@ -59,86 +59,33 @@ fn a_resource_that_leaves_all_out(rt: HostRuntime) -> Result<(), Fail> {
     Ok(())
 }
 
-/// The URLs of two resources, a key, and the URL of the resource that is found.
-const KEYS: &[(&str, &str, &str, Option<&str>)] = &[
-    (
-        "https://b.org/A",
-        "https://b.org/a",
-        "https://b.org/a",
-        Some("https://b.org/a"),
-    ),
-    (
-        "https://b.org/A",
-        "https://b.org/a",
-        "https://b.org/A",
-        Some("https://b.org/A"),
-    ),
-    (
-        "https://b.org/A",
-        "https://b.org/b",
-        "https://b.org/a",
-        None,
-    ),
-    (
-        "https://b.org/#top",
-        "https://b.org/x",
-        "https://b.org/",
-        Some("https://b.org/#top"),
-    ),
-    (
-        "https://b.org/#top",
-        "https://b.org/x",
-        "https://b.org/#top",
-        None,
-    ),
-    (
-        "https://b.org/",
-        "https://b.org/?q#top",
-        "https://b.org/?q",
-        Some("https://b.org/?q#top"),
-    ),
-    (
-        "https://b.org/",
-        "http://b.org/",
-        "http://b.org/",
-        Some("http://b.org/"),
-    ),
-    (
-        "https://b.org/",
-        "https://b.org:8443/",
-        "https://b.org:8444/",
-        None,
-    ),
-    ("https://b.org/", "https://c.org/", "https://b.org", None),
-    ("https://b.org/", "https://c.org/", "", None),
-    ("about:blank", "data:,x#y", "data:,x", Some("data:,x#y")),
-    (
-        "about:blank",
-        "data:,x#y",
-        "about:blank",
-        Some("about:blank"),
-    ),
+/// The URL of a resource, a key, and whether the resource is found by it.
+const KEYS: &[(&str, &str, bool)] = &[
+    ("https://b.org/A", "https://b.org/A", true),
+    ("https://b.org/A", "https://b.org/a", false),
+    ("https://b.org/#top", "https://b.org/", true),
+    ("https://b.org/#top", "https://b.org/#top", false),
+    ("https://b.org/?q#top", "https://b.org/?q", true),
+    ("https://b.org/?q", "https://b.org/", false),
+    ("http://b.org/", "https://b.org/", false),
+    ("https://b.org:8443/", "https://b.org/", false),
+    ("https://b.org/", "https://b.org", false),
+    ("https://b.org/", "", false),
+    ("about:blank", "about:blank", true),
+    ("data:,x#y", "data:,x", true),
 ];
 
-/// The URL of the resource with a key, of a script with resources at these two URLs.
-fn found(alloc: Global, first: &str, second: &str, key: &str) -> Result<Option<String>, Fail> {
+/// Whether a script finds its one resource, at this URL, by a key.
+fn is_found(alloc: Global, url: &str, key: &str) -> Result<bool, Fail> {
     let mut script = script(alloc, "https://a.com/")?;
-    let (first, second) = (resource(alloc, first)?, resource(alloc, second)?);
-    if first.url.key() == second.url.key() {
-        return Err(Fail::new("two resources with one key"));
-    }
-    script.resources = Resources::from_vec(vec![in alloc; first, second]?);
-    match find(&script, key) {
-        Some(resource) => Ok(Some(String::from_str(alloc, resource.url.text())?)),
-        None => Ok(None),
-    }
+    script.resources = Resources::from_vec(vec![in alloc; resource(alloc, url)?]?);
+    Ok(find(&script, key).map(|resource| resource.url.text()) == Some(url))
 }
 
 #[test]
 fn resources_by_their_keys(rt: HostRuntime) -> Result<(), Fail> {
-    for (first, second, key, want) in KEYS {
-        let found = found(rt.alloc(), first, second, key)?;
-        assert!(rt; found.as_ref().map(|url| url.as_str()) == *want, "{key}");
+    for (url, key, want) in KEYS {
+        assert!(rt; is_found(rt.alloc(), url, key)? == *want, "{url} {key}");
     }
     Ok(())
 }
