@@ -33,9 +33,10 @@ fn script(alloc: Global, pages: &[&str]) -> Result<Script, Fail> {
     Ok(Script::new(alloc, rules, start))
 }
 
-fn run_text(alloc: Global, policy: Policy, pages: &[&str]) -> Result<Vec<u8>, Fail> {
+fn run_text(alloc: Global, policy: Policy, pages: &[&str]) -> Result<String, Fail> {
     let history = run1(alloc, &script(alloc, pages)?)?;
-    Ok(text_of(alloc, policy, &history)?)
+    let text = text_of(alloc, policy, &history)?;
+    Ok(String::from_utf8_lossy(alloc, text.as_slice())?)
 }
 
 #[test]
@@ -70,7 +71,7 @@ commit 1 1 https://a.com 68747470733a2f2f612e636f6d2f => ok
     ];
     for (pages, text) in cases {
         let written = run_text(alloc, Policy::One, pages)?;
-        assert_eq!(rt; written.as_slice(), text.as_bytes());
+        assert_eq!(rt; written.as_str(), text);
     }
     Ok(())
 }
@@ -78,9 +79,9 @@ commit 1 1 https://a.com 68747470733a2f2f612e636f6d2f => ok
 #[test]
 fn a_text_of_the_second_policy_has_its_version_line(rt: HostRuntime) -> Result<(), Fail> {
     let empty = run_text(rt.alloc(), Policy::Two, &[])?;
-    assert_eq!(rt; empty.as_slice(), b"history 2\n".as_slice());
+    assert_eq!(rt; empty.as_str(), "history 2\n");
     let page = run_text(rt.alloc(), Policy::Two, &["https://a.com/"])?;
-    assert!(rt; page.starts_with(b"history 2\nopen 0\norder 0 0 "));
+    assert!(rt; page.as_str().starts_with("history 2\nopen 0\norder 0 0 "));
     Ok(())
 }
 
