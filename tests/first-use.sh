@@ -48,7 +48,7 @@ make_repository() {
   mkdir -p "$repository/.ci" "$repository/tests/golden"
   cp "$top/mortxalde" "$repository/"
   cp "$top/.ci/run" "$top/.ci/program.sh" "$repository/.ci/"
-  for part in golden/run first-use.sh script-schema.sh; do
+  for part in golden/run audits.sh first-use.sh script-schema.sh rules-pages.sh history-view.sh; do
     printf '#!/bin/sh\nexit 0\n' >"$repository/tests/$part"
     chmod +x "$repository/tests/$part"
   done
@@ -178,14 +178,29 @@ make_repository
 (cd "$repository" && ROOM=$room PATH=$room/kit:$PATH .ci/run >"$room/stdout" 2>&1)
 expect "the gate" "$?" 0
 expect "the gate: what the kit was asked" "$(asked)" "ci "
-expect "the gate: its first line at the end" "$(tail -n 4 "$room/stdout" | head -n 1)" "rt ci: passed"
+expect "the gate: its first line at the end" "$(grep "^rt ci: " "$room/stdout")" "rt ci: passed"
 expect_fresh "a use after the gate"
 
 make_repository
 echo ci >"$room/refuses"
 (cd "$repository" && ROOM=$room PATH=$room/kit:$PATH .ci/run >"$room/stdout" 2>&1)
 expect "a gate that fails" "$?" 1
-expect "a gate that fails: golden runs" "$(tail -n 3 "$room/stdout" | head -n 1)" "golden runs: FAILED"
+expect "a gate that fails: golden runs" "$(grep "^golden runs: FAILED" "$room/stdout")" "golden runs: FAILED"
+
+make_repository
+for part in script-schema.sh history-view.sh; do
+  printf '#!/bin/sh\nexit 77\n' >"$repository/tests/$part"
+done
+(cd "$repository" && ROOM=$room PATH=$room/kit:$PATH .ci/run >"$room/stdout" 2>&1)
+expect "a gate without python3" "$?" 0
+expect "a gate without python3: its lines" "$(grep "NOT CHECKED" "$room/stdout")" \
+  "script schema: NOT CHECKED, since python3 with jsonschema is missing
+history view: NOT CHECKED, since python3 of version 3.8 or later is missing"
+
+make_repository
+printf '#!/bin/sh\nexit 1\n' >"$repository/tests/history-view.sh"
+(cd "$repository" && ROOM=$room PATH=$room/kit:$PATH .ci/run >"$room/stdout" 2>&1)
+expect "a gate whose history view fails" "$?" 1
 
 echo "$passed passed, $failed failed"
 [ "$failed" -eq 0 ]

@@ -1,7 +1,7 @@
 #!/usr/bin/env bash
 # Checks docs/script.schema.json: that it is a JSON Schema, that each of its keys has a description, that it takes every
-# example script, every script of a golden run that the program runs, and those at its limits, and that it refuses each
-# script that is listed below with its fault. Where python3 or its module jsonschema is missing, nothing is checked, and the
+# example script, every script of a golden run that the program runs or that Chromium replays, and those at its limits, and
+# that it refuses each script that is listed below with its fault. Where python3 or its module jsonschema is missing, nothing is checked, and the
 # status is 77. The last line is 'N passed, M failed'.
 set -u
 top=$(cd "$(dirname "${BASH_SOURCE[0]}")/.." && pwd)
@@ -63,6 +63,7 @@ def raw(**keys):
 TAKEN = {
     "no start page": script(start=[]),
     "64 start pages": script(start=[URL] * 64),
+    "64 isolated origins": script(isolated_origins=[URL] * 64),
     "a soft limit of 0": script(soft_limit=0),
     "a soft limit of 64": script(soft_limit=64),
     "1,024 resources": script(resources=[{"url": URL}] * 1024),
@@ -94,6 +95,9 @@ REFUSED = {
     "a start that is no list": script(start=URL),
     "a start page that is no string": script(start=[1]),
     "65 start pages": script(start=[URL] * 65),
+    "65 isolated origins": script(isolated_origins=[URL] * 65),
+    "isolated origins that are no list": script(isolated_origins=URL),
+    "an isolated origin that is no string": script(isolated_origins=[1]),
     "suffixes that are no string": script(suffixes=["com"]),
     "a spare that is no boolean": script(spare=1),
     "a soft limit of 65": script(soft_limit=65),
@@ -149,7 +153,7 @@ Draft202012Validator.check_schema(schema)
 for place in undescribed(schema, ""):
     failures.append(f"no description at {place}")
 
-scripts = sorted(top.glob("examples/*.json"))
+scripts = sorted(top.glob("examples/*.json")) + sorted(top.glob("tests/against-chromium/scripts/*.json"))
 for run in sorted(top.glob("tests/golden/*")):
     words = run / "words"
     if (run / "stdin").is_file() and not (run / "status").is_file() and words.is_file() and words.read_text() == "one\n":

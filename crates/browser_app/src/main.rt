@@ -46,7 +46,9 @@ fn print_line(rt: &impl Eprint, line: &str) {
 fn tell(rt: &(impl Alloc<A = Global> + Eprint), status: &Status) {
     match status_line(rt.alloc(), status) {
         Ok(line) => print_line(rt, line.as_str()),
-        Err(_) if matches!(status, Status::NoMemory) => print_line(rt, "no memory"),
+        Err(error) if matches!(status, Status::NoMemory) => {
+            let _ = eprintln!(rt; "{error}");
+        }
         Err(_) => {}
     }
 }

@@ -1,45 +1,61 @@
--- What the top call writes.
-use Rattle.std.specs.Prelude.{◌≡◌, ◌∷◌, [], ◌<◌, Err, List, Ok, Option, codes, if◌then◌else◌, length, nat_lt, take, ℕ}
-use Rattle.std.specs.Io.KnownBytes.{Appends}
-use Rattle.history_entry.specs.declared.entry.Entry.{Entry}
-use Rattle.history_entry.specs.declared.policy.Policy.TheVariants.{Two}
-use Rattle.script_model.specs.ScriptData.{ScriptData}
-use Rattle.history.specs.Run.{IsRun}
-use Rattle.history.specs.Text.{text_of}
-use Rattle.script_input.specs.Checked.{Checked}
-use Rattle.browser_cli.specs.NotBuilt.{runnable_script}
+-- What the top call reads, writes and answers.
+use Rattle.std.specs.Prelude.{◌≡◌, ◌<◌, ◌≤◌, [], IfSome, List, None, Option, Some, ⊤, length, take, ℕ}
+use Rattle.std.specs.Io.KnownBytes.{Appends, IsAtEnd}
+use Rattle.browser_cli.specs.Answers.{IsAnswer, IsRefusal}
+use Rattle.browser_cli.specs.Commands.{command_of, input_limit}
+use Rattle.browser_cli.specs.declared.command.Command.{Command}
+use Rattle.browser_cli.specs.declared.command.Command.TheVariants.{Audit, Gen, One}
 use Rattle.browser_cli.specs.declared.status.Status.{Status}
-use Rattle.browser_cli.specs.declared.status.Status.TheVariants.{Ran, Refused, TooLarge}
+use Rattle.browser_cli.specs.declared.status.Status.TheVariants.{Illegal, Ran, Refused, TooLarge}
 
--- the most bytes of input
-abbrev pub input_limit : ℕ
-input_limit = 4194304
+-- a command's input, of what its source has left: all of it, and nothing for `gen`
+abbrev pub input_of : Command → Option (List ℕ) → Option (List ℕ)
+input_of One left = left
+input_of Audit left = left
+input_of (Gen number) left = Some []
 
--- the words are the command `one`
-abbrev pub IsOne : List (List ℕ) → Type 0
-IsOne words = words ≡ codes "one" ∷ []
+-- P holds of the command that the words name and of its input, where the source tells its bytes
+abbrev pub IfInput : List (List ℕ) → Option (List ℕ) → (Command → List ℕ → Type 0) → Type 0
+IfInput words left P = IfSome (command_of words) (λ command. IfSome (input_of command left) (P command))
 
--- the input is a script that is run, and the output is the text of the one-thread run of that script, of version two
-pub record IsOutput (input output : List ℕ) : Type 0 where
-  pub script : ScriptData
-  pub is_script : runnable_script input ≡ Ok script
-  pub history : List Entry
-  pub is_run : IsRun script history
-  pub is_text : output ≡ text_of Two history
+-- P holds of the command that the words name
+abbrev pub IfCommand : List (List ℕ) → (Command → Type 0) → Type 0
+IfCommand words P = IfSome (command_of words) P
 
--- exactly the whole output for the input was written
-abbrev pub WritesOutput : Option (List ℕ) → Option (List ℕ) → List ℕ → Type 0
-WritesOutput before now input = (output : List ℕ) × IsOutput input output × Appends before now output
+-- the command's source was read to its end; `gen` has no source
+abbrev pub IsReadWhole : Option (List ℕ) → Command → Type 0
+IsReadWhole left One = IsAtEnd left
+IsReadWhole left Audit = IsAtEnd left
+IsReadWhole left (Gen number) = ⊤
 
--- a part of the output for the input was written, from its front on
-abbrev pub WritesPart : Option (List ℕ) → Option (List ℕ) → List ℕ → Type 0
-WritesPart before now input = (output : List ℕ) × (sent : ℕ) × IsOutput input output × (sent < length output) × Appends before now (take sent output)
+-- nothing is read: the words are no command, or `gen`
+abbrev pub ReadsNothing : Option Command → Type 0
+ReadsNothing None = ⊤
+ReadsNothing (Some One) = ⊥
+ReadsNothing (Some Audit) = ⊥
+ReadsNothing (Some (Gen number)) = ⊤
 
--- the status for a script, or for its first refusal
-abbrev pub status_by : Checked ScriptData → Status
-status_by (Ok script) = Ran
-status_by (Err refusal) = Refused refusal
+-- exactly the whole output was written that the command makes of its input with this status
+abbrev pub WritesOutput : Status → Option (List ℕ) → Option (List ℕ) → Command → List ℕ → Type 0
+WritesOutput status before now command input = (output : List ℕ) × IsAnswer command input status output × Appends before now output
 
--- the status for an input, where no read and no write fails and memory is found
-abbrev pub status_for : List ℕ → Status
-status_for input = if nat_lt input_limit (length input) then TooLarge else status_by (runnable_script input)
+-- a part was written of the output that the command makes of its input, from its front on
+abbrev pub WritesPart : Option (List ℕ) → Option (List ℕ) → Command → List ℕ → Type 0
+WritesPart before now command input = (status : Status) × (output : List ℕ) × (sent : ℕ)
+    × IsAnswer command input status output × (sent < length output) × Appends before now (take sent output)
+
+-- how a command ends over an input that is not too long
+abbrev pub IsEnding : Command → List ℕ → Status → Type 0
+IsEnding command input Ran = (output : List ℕ) × IsAnswer command input Ran output
+IsEnding command input (Illegal finding) = (output : List ℕ) × IsAnswer command input (Illegal finding) output
+IsEnding command input (Refused refusal) = IsRefusal command input refusal
+IsEnding command input _ = ⊥
+
+-- how a command ends over an input, where no read and no write fails and memory is found
+pub record IsStatusFor (command : Command) (input : List ℕ) (status : Status) : Type 0 where
+  pub too_large : input_limit command < length input → status ≡ TooLarge
+  pub fits : length input ≤ input_limit command → IsEnding command input status
+
+-- a command ends in one way over an input
+abbrev pub StatusesAreUnique : Type 0
+StatusesAreUnique = (command : Command) (input : List ℕ) (a b : Status) → IsStatusFor command input a → IsStatusFor command input b → a ≡ b

@@ -1,3 +1,4 @@
-pub mod NotBuilt
 pub mod StatusLines
+pub mod Commands
+pub mod Answers
 pub mod Browse

@@ -1,61 +1,50 @@
 //! The top call.
 
-ghost use Rattle.std.specs.Prelude.{◌≡◌, ◌≤◌, ◌↔◌, ◌+◌, IfOk, IfSome, IsTrue, List, Some, codes, map, ℕ};
-ghost use Rattle.std.specs.Io.KnownBytes.{IsAtEnd};
+ghost use Rattle.std.specs.Prelude.{◌≡◌, ◌≢◌, ◌≤◌, ◌↔◌, ◌+◌, IfOk, IfSome, IsOk, List, None, OnOk, Some, map, vec_len, ℕ};
 ghost use Rattle.browser_io.specs.Faults.{Rose};
 ghost use Rattle.browser_io.specs.Moved.{KeepsTelling, TakesAtMost, TakesExactly};
-ghost use Rattle.script_input.specs.Answers.{Gives};
 ghost use Rattle.script_input.specs.declared.refusal.Refusal.{Refusal as RefusalData};
-ghost use Rattle.browser_cli.specs.NotBuilt.{runnable_script};
-ghost use Rattle.browser_cli.specs.Browse.{IsOne, IsOutput, WritesOutput, WritesPart, input_limit, status_for};
+ghost use Rattle.browser_cli.specs.Answers.{IsRefusal};
+ghost use Rattle.browser_cli.specs.Browse.{IfCommand, IfInput, IsReadWhole, IsStatusFor, ReadsNothing, WritesOutput, WritesPart, input_of};
+ghost use Rattle.browser_cli.specs.Commands.{command_of, input_limit};
+ghost use Rattle.browser_cli.specs.declared.command.Command.{Command as CommandData};
+ghost use Rattle.browser_cli.specs.declared.status.Finding.{Finding as FindingData};
 
-use crate::built::is_built;
+use crate::answers::{answer_of, status_of};
+use crate::command::{Command, command_of};
 use crate::status::Status;
 use browser_io::{ReadStop, Sink, Source, read_all, write_all};
-use history::{run1, text_of};
-use script_input::{Refusal, ScriptStop, read_script};
-use script_model::{Policy, Script};
+use script_input::ScriptStop;
 use std::alloc::Global;
 
-/// X9: not built yet.
-const NOT_BUILT: u8 = 9;
+/// The most bytes of a script.
+const SCRIPT_LIMIT: usize = 4_194_304;
 
-/// The most bytes of input.
-const INPUT_LIMIT: usize = 4_194_304;
+/// The most bytes of what `audit` reads.
+const AUDIT_LIMIT: usize = 536_870_912;
 
-fn is_word(word: &str) -> bool
-    ensures { IsTrue result ↔ (word.now ≡ codes "one") }
+/// Reads a command's input; for `gen` it reads nothing.
+fn read_input<S: Source>(
+    alloc: Global,
+    command: Command,
+    source: &mut S,
+) -> Result<Vec<u8>, ReadStop>
+    ensures whole { IfOk result (λ all. IfSome (input_of command (S.left source.old)) (λ input. all.items ≡ input)) }
+    ensures end { OnOk result (IsReadWhole (S.left source.new) command) }
+    ensures fits { IfOk result (λ all. vec_len all ≤ input_limit command) }
+    ensures large { result ≡ Err ReadStop.TooLarge → TakesExactly (S.left source.old) (S.left source.new) (input_limit command + 1) }
+    ensures others { result ≢ Err ReadStop.TooLarge → TakesAtMost (S.left source.old) (S.left source.new) (input_limit command) }
+    ensures fault { result ≡ Err ReadStop.Fault → Rose (S.faults source.old) (S.faults source.new) }
+    ensures calm { result ≢ Err ReadStop.Fault → S.faults source.new ≡ S.faults source.old }
+    ensures later { S.faults source.old ≤ S.faults source.new }
+    ensures telling { KeepsTelling (S.left source.old) (S.left source.new) }
+    ensures unread { ReadsNothing (Some command) → (source.new ≡ source.old) × IsOk result }
 {
-    word == "one"
-}
-
-fn is_one(words: &[&str]) -> bool
-    ensures { IsTrue result ↔ IsOne (map (λ w. w.now) words.now) }
-{
-    match words {
-        [word] => is_word(word),
-        _ => false,
+    match command {
+        Command::One => read_all(alloc, source, SCRIPT_LIMIT),
+        Command::Audit => read_all(alloc, source, AUDIT_LIMIT),
+        Command::Gen(_) => Ok(Vec::new(alloc)),
     }
-}
-
-#[tactic(auto, unfolding(crate::specs::NotBuilt::runnable_script))]
-fn runnable_script(alloc: Global, input: &[u8]) -> Result<Script, ScriptStop>
-    ensures { Gives result (runnable_script input.now) }
-{
-    let script = read_script(alloc, input)?;
-    if !is_built(&script) {
-        return Err(ScriptStop::Refused(Refusal::whole(alloc, NOT_BUILT)));
-    }
-    Ok(script)
-}
-
-fn output_of(alloc: Global, input: &[u8]) -> Result<Vec<u8>, ScriptStop>
-    ensures ok { IfOk result (λ output. IsOutput input.now output.items) }
-    ensures refused { (refused : RefusalData) → result ≡ Err (ScriptStop.Refused refused) → runnable_script input.now ≡ Err refused }
-{
-    let script = runnable_script(alloc, input)?;
-    let history = run1(alloc, &script)?;
-    Ok(text_of(alloc, Policy::Two, &history)?)
 }
 
 /// Does all that the program does: `words` name the command, its input is read from `source` and its output written to
@@ -66,30 +55,41 @@ pub fn browse_one<S: Source, K: Sink>(
     source: &mut S,
     sink: &mut K,
 ) -> Status
-    ensures usage { (result ≡ Status.Usage) ↔ ¬ IsOne (map (λ w. w.now) words.now) }
+    ensures usage { (result ≡ Status.Usage) ↔ (command_of (map (λ w. w.now) words.now) ≡ None) }
 
-    // What was read is a script that is run, and exactly the text of its one-thread run was written.
-    ensures ran { result ≡ Status.Ran → IfSome (S.left source.old) (WritesOutput (K.written sink.old) (K.written sink.new)) }
-    ensures ran_read { result ≡ Status.Ran → IsAtEnd (S.left source.new) }
+    // Exactly the output was written that the command makes of its input; an `audit` that ran found the text legal.
+    ensures ran { result ≡ Status.Ran
+        → IfInput (map (λ w. w.now) words.now) (S.left source.old) (WritesOutput Status.Ran (K.written sink.old) (K.written sink.new)) }
+    ensures ran_read { result ≡ Status.Ran → IfCommand (map (λ w. w.now) words.now) (IsReadWhole (S.left source.new)) }
+
+    // The text is not that of a finished legal history, and exactly the line that says why was written.
+    ensures illegal { (f : FindingData) → result ≡ Status.Illegal f
+        → IfInput (map (λ w. w.now) words.now) (S.left source.old) (WritesOutput (Status.Illegal f) (K.written sink.old) (K.written sink.new)) }
+    ensures illegal_read { (f : FindingData) → result ≡ Status.Illegal f → IfCommand (map (λ w. w.now) words.now) (IsReadWhole (S.left source.new)) }
 
     // The whole input was read, and this is its first refusal.
-    ensures refused { (x : RefusalData) → result ≡ Status.Refused x → IfSome (S.left source.old) (λ input. runnable_script input ≡ Err x) }
-    ensures refused_read { (x : RefusalData) → result ≡ Status.Refused x → IsAtEnd (S.left source.new) }
+    ensures refused { (x : RefusalData) → result ≡ Status.Refused x
+        → IfInput (map (λ w. w.now) words.now) (S.left source.old) (λ command input. IsRefusal command input x) }
+    ensures refused_read { (x : RefusalData) → result ≡ Status.Refused x → IfCommand (map (λ w. w.now) words.now) (IsReadWhole (S.left source.new)) }
 
     ensures read_fault { result ≡ Status.ReadFault → Rose (S.faults source.old) (S.faults source.new) }
 
     // One byte more than the limit was read, and no more than the limit with any other status.
-    ensures too_large { result ≡ Status.TooLarge → TakesExactly (S.left source.old) (S.left source.new) (input_limit + 1) }
-    ensures within { ¬ (result ≡ Status.TooLarge) → TakesAtMost (S.left source.old) (S.left source.new) input_limit }
+    ensures too_large { result ≡ Status.TooLarge
+        → IfCommand (map (λ w. w.now) words.now) (λ command. TakesExactly (S.left source.old) (S.left source.new) (input_limit command + 1)) }
+    ensures within { ¬ (result ≡ Status.TooLarge)
+        → IfCommand (map (λ w. w.now) words.now) (λ command. TakesAtMost (S.left source.old) (S.left source.new) (input_limit command)) }
 
     // A failed write leaves a part of the whole output written, from its front on.
     ensures write_fault { result ≡ Status.WriteFault → Rose (K.faults sink.old) (K.faults sink.new) }
-    ensures write_read { result ≡ Status.WriteFault → IsAtEnd (S.left source.new) }
-    ensures write_part { result ≡ Status.WriteFault → IfSome (S.left source.old) (WritesPart (K.written sink.old) (K.written sink.new)) }
+    ensures write_read { result ≡ Status.WriteFault → IfCommand (map (λ w. w.now) words.now) (IsReadWhole (S.left source.new)) }
+    ensures write_part { result ≡ Status.WriteFault
+        → IfInput (map (λ w. w.now) words.now) (S.left source.old) (WritesPart (K.written sink.old) (K.written sink.new)) }
 
-    // Nothing is written otherwise, and nothing read for other words.
-    ensures unwritten { ¬ (result ≡ Status.Ran) → ¬ (result ≡ Status.WriteFault) → sink.new ≡ sink.old }
-    ensures unread { result ≡ Status.Usage → source.new ≡ source.old }
+    // Nothing is written otherwise, and nothing read for words that are no command, and for `gen`.
+    ensures unwritten { ¬ (result ≡ Status.Ran) → ((f : FindingData) → ¬ (result ≡ Status.Illegal f)) → ¬ (result ≡ Status.WriteFault)
+        → sink.new ≡ sink.old }
+    ensures unread { ReadsNothing (command_of (map (λ w. w.now) words.now)) → source.new ≡ source.old }
 
     // A count of faults never falls, and rises in a faulty call alone; an object that tells its bytes goes on telling them.
     ensures source_later { S.faults source.old ≤ S.faults source.new }
@@ -100,22 +100,23 @@ pub fn browse_one<S: Source, K: Sink>(
     ensures sink_telling { KeepsTelling (K.written sink.old) (K.written sink.new) }
 
     // The input alone decides where no fault rose and memory was found.
-    ensures complete { (input : List ℕ) → IsOne (map (λ w. w.now) words.now) → S.left source.old ≡ Some input
+    ensures complete { (command : CommandData) (input : List ℕ) → command_of (map (λ w. w.now) words.now) ≡ Some command
+        → input_of command (S.left source.old) ≡ Some input
         → ¬ Rose (S.faults source.old) (S.faults source.new) → ¬ Rose (K.faults sink.old) (K.faults sink.new)
-        → ¬ (result ≡ Status.NoMemory) → result ≡ status_for input }
+        → ¬ (result ≡ Status.NoMemory) → IsStatusFor command input result }
 {
-    if !is_one(words) {
+    let Some(command) = command_of(words) else {
         return Status::Usage;
-    }
-    let input = match read_all(alloc, source, INPUT_LIMIT) {
+    };
+    let input = match read_input(alloc, command, source) {
         Ok(input) => input,
         Err(ReadStop::Fault) => return Status::ReadFault,
         Err(ReadStop::TooLarge) => return Status::TooLarge,
         Err(ReadStop::NoMemory) => return Status::NoMemory,
     };
-    match output_of(alloc, &input) {
-        Ok(output) => match write_all(sink, &output) {
-            Ok(()) => Status::Ran,
+    match answer_of(alloc, command, &input) {
+        Ok(answer) => match write_all(sink, &answer.output) {
+            Ok(()) => status_of(answer.finding),
             Err(_) => Status::WriteFault,
         },
         Err(ScriptStop::Refused(refusal)) => Status::Refused(refusal),

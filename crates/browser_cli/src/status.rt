@@ -1,16 +1,30 @@
 ghost use Rattle.std.specs.Prelude.{◌≡◌, IfOk};
 ghost use Rattle.browser_cli.specs.StatusLines as lines;
 
+use history::EntryKind;
 use script_input::Refusal;
 use script_model::NoMemory;
 use std::alloc::Global;
 use std::marker::Model;
+
+/// Why a text is not that of a finished legal history. The version line counts as a line.
+#[derive(Clone, Copy, Debug, PartialEq, Eq)]
+pub enum Finding {
+    /// The first line that is no spelling of an entry.
+    BadLine(u32),
+    /// The line of the first entry that may not follow those before it.
+    Entry(u32),
+    /// All entries may follow, and so may one of this kind.
+    Unfinished(EntryKind),
+}
 
 /// How a call of the program ended.
 #[derive(Drop)]
 pub enum Status {
     /// The input was read to its end, and the whole output was written.
     Ran,
+    /// `audit`: the input was read to its end, and its finding was written.
+    Illegal(Finding),
     /// The words are no command.
     Usage,
     /// A read failed.
@@ -31,6 +45,7 @@ impl Status {
     {
         match self {
             Status::Ran => 0,
+            Status::Illegal(_) => 1,
             Status::Usage => 2,
             Status::ReadFault => 3,
             Status::WriteFault => 4,
@@ -70,12 +85,13 @@ pub fn status_line(alloc: Global, status: &Status) -> Result<LineText, NoMemory>
 {
     let text = match status {
         Status::Ran => String::new(alloc),
+        Status::Illegal(_) => String::from_str(alloc, "illegal")?,
         Status::Usage => String::from_str(alloc, "usage: one | run N | audit | gen NUMBER")?,
         Status::ReadFault => String::from_str(alloc, "read fault")?,
         Status::WriteFault => String::from_str(alloc, "write fault")?,
         Status::Refused(refusal) => format!(in alloc; "{refusal}")?,
         Status::TooLarge => String::from_str(alloc, "too large")?,
-        Status::NoMemory => String::from_str(alloc, "no memory")?,
+        Status::NoMemory => format!(in alloc; "{NoMemory}")?,
     };
     Ok(LineText { text })
 }

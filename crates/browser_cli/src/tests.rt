@@ -1,7 +1,12 @@
 ghost use Rattle.std.specs.Prelude.{◌≤◌};
 
-use crate::{PathText, Refusal, Status, browse_one, read_script, status_line};
+mod cut_and_failing;
+
+use crate::{
+    Command, Finding, PathText, Refusal, Status, browse_one, command_of, read_script, status_line,
+};
 use browser_io::{MemSink, MemSource, NeverSink, NeverSource};
+use history::EntryKind;
 use std::alloc::Global;
 use std::test::Fail;
 
@@ -27,17 +32,17 @@ struct Ended {
     written: String,
 }
 
-fn run(
+fn run_bytes(
     alloc: Global,
     words: &[&str],
-    input: &str,
+    input: &[u8],
     step: usize,
     failing_read: Option<u64>,
     failing_write: Option<u64>,
 ) -> Result<Ended, Fail>
     requires { 1 ≤ step }
 {
-    let bytes = input.as_bytes().to_vec(alloc)?;
+    let bytes = input.to_vec(alloc)?;
     let mut source = MemSource::new(bytes, step, failing_read.into_iter().collect(alloc)?);
     let mut sink = MemSink::new(alloc, 4096, step, failing_write.into_iter().collect(alloc)?)?;
     let status = browse_one(alloc, words, &mut source, &mut sink);
@@ -49,10 +54,30 @@ fn run(
     })
 }
 
+fn run(
+    alloc: Global,
+    words: &[&str],
+    input: &str,
+    step: usize,
+    failing_read: Option<u64>,
+    failing_write: Option<u64>,
+) -> Result<Ended, Fail>
+    requires { 1 ≤ step }
+{
+    run_bytes(
+        alloc,
+        words,
+        input.as_bytes(),
+        step,
+        failing_read,
+        failing_write,
+    )
+}
+
 #[test]
 fn commands_end_with_their_status(rt: HostRuntime) -> Result<(), Fail> {
     let usage = "usage: one | run N | audit | gen NUMBER";
-    let cases: [(&[&str], &str, u8, &str, &str); 11] = [
+    let cases: [(&[&str], &str, u8, &str, &str); 14] = [
         (&["one"], PAGE, 0, "", PAGE_TEXT),
         (&["one"], r#"{"start":[]}"#, 0, "", "history 2\n"),
         (
@@ -76,6 +101,9 @@ fn commands_end_with_their_status(rt: HostRuntime) -> Result<(), Fail> {
         (&["run", "17"], PAGE, 2, usage, ""),
         (&["one", "two"], PAGE, 2, usage, ""),
         (&["One"], PAGE, 2, usage, ""),
+        (&["audit", "one"], PAGE, 2, usage, ""),
+        (&["gen"], PAGE, 2, usage, ""),
+        (&["gen", "07"], PAGE, 2, usage, ""),
     ];
     for (words, input, code, line, written) in cases {
         for step in [1, 8, 4096] {
@@ -84,6 +112,124 @@ fn commands_end_with_their_status(rt: HostRuntime) -> Result<(), Fail> {
             assert_eq!(rt; ended.line.as_str(), line);
             assert_eq!(rt; ended.written.as_str(), written);
         }
+    }
+    Ok(())
+}
+
+#[test]
+fn words_name_commands(rt: HostRuntime) {
+    let rows: [(&[&str], Option<Command>); 17] = [
+        (&["one"], Some(Command::One)),
+        (&["audit"], Some(Command::Audit)),
+        (&["gen", "0"], Some(Command::Gen(0))),
+        (&["gen", "7"], Some(Command::Gen(7))),
+        (
+            &["gen", "18446744073709551615"],
+            Some(Command::Gen(18_446_744_073_709_551_615)),
+        ),
+        (&["gen", "18446744073709551616"], None),
+        (&["gen", ""], None),
+        (&["gen", "+7"], None),
+        (&["gen", "-7"], None),
+        (&["gen", " 7"], None),
+        (&["gen", "7", "7"], None),
+        (&["gen"], None),
+        (&["Audit"], None),
+        (&["audit", ""], None),
+        (&["one", "7"], None),
+        (&[""], None),
+        (&[], None),
+    ];
+    for (words, command) in rows {
+        assert!(rt; command_of(words) == command);
+    }
+}
+
+// What `audit` reads, with its exit status, its line on standard error, and what it writes.
+const AUDITS: &[(&str, u8, &str, &str)] = &[
+    ("script 12\n{\"start\":[]}", 0, "", "legal 0\n"),
+    ("script 12\n{\"start\":[]}history 2\n", 0, "", "legal 0\n"),
+    (
+        "script 12\n{\"start\":[]}open 0\n",
+        1,
+        "illegal",
+        "illegal line 1\n",
+    ),
+    (
+        "script 12\n{\"start\":[]}history 2\nopen 0\n",
+        1,
+        "illegal",
+        "illegal line 2\n",
+    ),
+    (
+        "script 12\n{\"start\":[]}oops\n",
+        1,
+        "illegal",
+        "bad line 1\n",
+    ),
+    (
+        "script 12\n{\"start\":[]}open 0\noops\n",
+        1,
+        "illegal",
+        "bad line 2\n",
+    ),
+    (
+        "script 28\n{\"start\":[\"https://b.org/\"]}history 2\n",
+        1,
+        "illegal",
+        "unfinished open\n",
+    ),
+    ("", 5, "refused X8", ""),
+    ("script", 5, "refused X8", ""),
+    ("script 12", 5, "refused X8", ""),
+    ("script 12\n", 5, "refused X8", ""),
+    ("script 13\n{\"start\":[]}", 5, "refused X8", ""),
+    ("script 012\n{\"start\":[]}", 5, "refused X8", ""),
+    ("script +12\n{\"start\":[]}", 5, "refused X8", ""),
+    ("script  12\n{\"start\":[]}", 5, "refused X8", ""),
+    ("script 12\r\n{\"start\":[]}", 5, "refused X8", ""),
+    ("script \n{\"start\":[]}", 5, "refused X8", ""),
+    ("Script 12\n{\"start\":[]}", 5, "refused X8", ""),
+    ("scripts 12\n{\"start\":[]}", 5, "refused X8", ""),
+    ("script 4294967296\n", 5, "refused X8", ""),
+    ("{\"start\":[]}", 5, "refused X8", ""),
+    ("script 3\n[]", 5, "refused X8", ""),
+    ("script 2\n[]", 5, "refused X2", ""),
+    ("script 2\n[]oops", 5, "refused X2", ""),
+    ("script 0\n", 5, "refused X1", ""),
+    ("script 11\n{\"start\":[]}", 5, "refused X1", ""),
+];
+
+#[test]
+fn audits_end_with_what_they_find(rt: HostRuntime) -> Result<(), Fail> {
+    for (input, code, line, written) in AUDITS {
+        for step in [1, 8, 4096] {
+            let ended = run(rt.alloc(), &["audit"], input, step, None, None)?;
+            assert_eq!(rt; ended.code, *code, "{input}");
+            assert_eq!(rt; ended.line.as_str(), *line, "{input}");
+            assert_eq!(rt; ended.written.as_str(), *written, "{input}");
+        }
+    }
+    Ok(())
+}
+
+// The text of a run is legal, and each line less leaves it unfinished by the kind that is missing.
+#[test]
+fn texts_of_runs_are_legal(rt: HostRuntime) -> Result<(), Fail> {
+    let alloc = rt.alloc();
+    for (lines, code, written) in [
+        (1, 1, "unfinished open\n"),
+        (2, 1, "unfinished order\n"),
+        (3, 1, "unfinished commit\n"),
+        (4, 0, "legal 3\n"),
+    ] {
+        let mut input = format!(in alloc; "script {}\n{PAGE}", PAGE.len())?;
+        for line in PAGE_TEXT.split_inclusive('\n').take(lines) {
+            input.push_str(line)?;
+        }
+        let ended = run(alloc, &["audit"], &input, 4096, None, None)?;
+        assert_eq!(rt; ended.written.as_str(), written);
+        assert_eq!(rt; ended.code, code);
     }
     Ok(())
 }
@@ -175,6 +321,11 @@ fn faults_of_source_and_sink_are_told(rt: HostRuntime) -> Result<(), Fail> {
     let ended = run(rt.alloc(), &["one"], PAGE, 8, None, Some(1))?;
     assert_eq!(rt; (ended.code, ended.line.as_str()), (4, "write fault"));
     assert_eq!(rt; ended.written.as_str(), "history ");
+    let ended = run(rt.alloc(), &["audit"], AUDITS[0].0, 8, Some(1), None)?;
+    assert_eq!(rt; (ended.code, ended.line.as_str()), (3, "read fault"));
+    let ended = run(rt.alloc(), &["audit"], AUDITS[2].0, 8, None, Some(1))?;
+    assert_eq!(rt; (ended.code, ended.line.as_str()), (4, "write fault"));
+    assert_eq!(rt; ended.written.as_str(), "illegal ");
     Ok(())
 }
 
@@ -216,18 +367,15 @@ const SCRIPTS: &[(&str, &str)] = &[
         r#"{"start":[],"resources":[{"url":"https://a.com/","actions":[{"do":"fly"}]}]}"#,
         "refused X2 /resources/0/actions/0/do",
     ),
-    (r#"{"start":[],"spare":true}"#, "refused X9"),
-    (
-        r#"{"start":["https://a.com/","https://b.org/"]}"#,
-        "refused X9",
-    ),
+    (r#"{"start":[],"spare":true}"#, ""),
+    (r#"{"start":["https://a.com/","https://b.org/"]}"#, ""),
     (
         r#"{"start":[],"resources":[{"url":"https://a.com/","actions":[{"do":"wait"}]}]}"#,
-        "refused X9",
+        "",
     ),
     (
         r#"{"start":[],"resources":[{"url":"https://a.com/","fail_after":0}]}"#,
-        "refused X9",
+        "",
     ),
     (
         r#"{"start":[],"resources":[{"url":"https://a.com/","body":"x","fail_after":1}]}"#,
@@ -273,34 +421,6 @@ fn refusals_have_texts(rt: HostRuntime) -> Result<(), Fail> {
 }
 
 #[test]
-fn statuses_that_lead_on_are_not_built(rt: HostRuntime) -> Result<(), Fail> {
-    let alloc = rt.alloc();
-    for (status, code) in [
-        (200, 0),
-        (203, 0),
-        (204, 5),
-        (205, 5),
-        (206, 0),
-        (300, 0),
-        (301, 5),
-        (302, 5),
-        (303, 5),
-        (304, 0),
-        (307, 5),
-        (308, 5),
-        (404, 0),
-        (599, 0),
-    ] {
-        let script = format!(in alloc;
-            "{{\"start\":[],\"resources\":[{{\"url\":\"https://a.com/\",\"status\":{status}}}]}}"
-        )?;
-        let ended = run(alloc, &["one"], script.as_str(), 4096, None, None)?;
-        assert_eq!(rt; ended.code, code, "{status}");
-    }
-    Ok(())
-}
-
-#[test]
 fn a_page_runs_where_nothing_fails(rt: HostRuntime) -> Result<(), Fail> {
     let alloc = rt.alloc();
     let mut source = NeverSource::new(PAGE.as_bytes().to_vec(alloc)?, 7);
@@ -327,6 +447,13 @@ fn lines_of_refusals_name_path_and_line(rt: HostRuntime) -> Result<(), Fail> {
 fn statuses_have_their_line_and_exit_code(rt: HostRuntime) -> Result<(), Fail> {
     let rows = [
         (Status::Ran, 0, ""),
+        (Status::Illegal(Finding::BadLine(1)), 1, "illegal"),
+        (Status::Illegal(Finding::Entry(2)), 1, "illegal"),
+        (
+            Status::Illegal(Finding::Unfinished(EntryKind::Exit)),
+            1,
+            "illegal",
+        ),
         (Status::Usage, 2, "usage: one | run N | audit | gen NUMBER"),
         (Status::ReadFault, 3, "read fault"),
         (Status::WriteFault, 4, "write fault"),

@@ -4,8 +4,8 @@ ghost use Rattle.std.specs.Prelude.{◌≡◌, ◌≤◌, ◌<◌, ◌-◌, ◌�
 ghost use Rattle.browser_io.specs.Faults.{counted_on, count_after};
 
 use crate::failed::Failed;
-use crate::no_memory::NoMemory;
 use crate::sink::Sink;
+use call_answers::NoMemory;
 use std::alloc::Global;
 use std::marker::Model;
 

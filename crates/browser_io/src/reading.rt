@@ -20,7 +20,7 @@ pub enum ReadStop {
     #[error("there are too many bytes")]
     TooLarge,
     /// The allocator had no memory left.
-    #[error("no memory")]
+    #[error("{}", call_answers::NoMemory)]
     NoMemory,
 }
 

@@ -7,7 +7,8 @@ use Rattle.std.proofs.lemmas.Bool.{false≢true, and_parts, and_from, or_left, o
 use Rattle.std.proofs.lemmas.List.{map-append, drop-append-le}
 use Rattle.corb_sniff.specs.Fronts.{is_white, begins, after_white, after_byte}
 use Rattle.corb_sniff.specs.XmlGrammar.{is_xml}
-use Rattle.corb_sniff.specs.JsonGrammar.{after_string, after_escape, is_json, ◌>>=◌}
+use Rattle.call_answers.specs.Chains.{◌>>=◌}
+use Rattle.corb_sniff.specs.JsonGrammar.{after_string, after_escape, is_json}
 use Rattle.corb_sniff.specs.ScriptPrefixes.{script_prefixes, has_prefix}
 use Rattle.corb_sniff.specs.HtmlGrammar.{tags, begins_with_tag, after_comment_end, after_blank, holds_within, holds_behind_blanks, is_lower_html, is_html}
 use Rattle.corb_sniff.specs.Confirmation.{meets}

@@ -4,7 +4,8 @@ use Rattle.std.specs.Option.{option_map_or, is_some}
 use Rattle.std.specs.List.{list_all}
 use Rattle.std.proofs.lemmas.Bool.{false≢true, and_parts, or_cases}
 use Rattle.corb_sniff.specs.Fronts.{is_white, after_white, after_byte}
-use Rattle.corb_sniff.specs.JsonGrammar.{after_string, after_escape, is_json, ◌>>=◌}
+use Rattle.call_answers.specs.Chains.{◌>>=◌}
+use Rattle.corb_sniff.specs.JsonGrammar.{after_string, after_escape, is_json}
 use Rattle.corb_sniff.specs.Hope.{is_open_string, is_open_escape, may_be_colon, may_be_name, may_be_object, may_be_json}
 use Rattle.corb_sniff.proofs.Longer.{Longer, after_white_byte-longer, after_string-longer}
 

@@ -6,7 +6,8 @@ use Rattle.std.proofs.lemmas.Bool.{false≢true, and_parts, or_cases, cases_eq, 
 use Rattle.std.proofs.lemmas.Bool.Decides.{nat_tests}
 use Rattle.corb_sniff.specs.Fronts.{is_white, begins, after_white, after_byte}
 use Rattle.corb_sniff.specs.XmlGrammar.{is_xml}
-use Rattle.corb_sniff.specs.JsonGrammar.{is_json, ◌>>=◌}
+use Rattle.call_answers.specs.Chains.{◌>>=◌}
+use Rattle.corb_sniff.specs.JsonGrammar.{is_json}
 use Rattle.corb_sniff.specs.ScriptPrefixes.{has_prefix}
 use Rattle.corb_sniff.specs.HtmlGrammar.{holds_within, holds_behind_blanks, is_lower_html, is_html}
 use Rattle.corb_sniff.specs.Confirmation.{meets}

@@ -1,11 +1,8 @@
 -- When a list of bytes is JSON: our own rule, after Chromium's CORB explainer. It begins as an object with a first name
 -- in quotes and a colon, which no script begins with.
-use Rattle.std.specs.Prelude.{ℕ, Bool, ◌==◌, nat_le, Option, Some, None, List, [], ◌∷◌, if◌then◌else◌, is_some, option_and_then}
+use Rattle.std.specs.Prelude.{ℕ, Bool, ◌==◌, nat_le, Option, Some, None, List, [], ◌∷◌, if◌then◌else◌, is_some}
+use Rattle.call_answers.specs.Chains.{◌>>=◌}
 use Rattle.corb_sniff.specs.Fronts.{after_white, after_byte}
-
-infixl 10 ◌>>=◌
-abbrev pub ◌>>=◌ : {A B : Type 0} → Option A → (A → Option B) → Option B
-o >>= f = option_and_then f o
 
 -- What is left behind a string whose opening quote is gone: bytes from 32 on other than `"` and `\`,
 -- or `\` with one byte from 32 on, up to a `"`.

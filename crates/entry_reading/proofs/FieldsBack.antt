@@ -1,5 +1,5 @@
 -- Each field is read back from its spelling.
-use Rattle.std.proofs.Common.{◌≡◌, ℕ, ◌<◌, ◌/◌, ◌%◌, Bool, true, false, ◌&&◌, ◌==◌, List, [], ◌∷◌, ◌++◌, length, get_or, drop, Some, refl, sym, ap, eq-eqb, ◌∙◌, append-nil, arith, ⊎_elim, suc, zero}
+use Rattle.std.proofs.Common.{◌≡◌, ℕ, ◌<◌, ◌/◌, ◌%◌, Bool, true, false, ◌&&◌, ◌==◌, List, [], ◌∷◌, ◌++◌, length, get_or, take, drop, Some, refl, sym, ap, eq-eqb, ◌∙◌, append-nil, take-append-drop, drop-cons, arith, ⊎_elim, suc, zero}
 use Rattle.std.specs.Prelude.{Option, IsUtf8, bytes_eq, codes, decimal, nat_lt}
 use Rattle.std.specs.List.{list_all}
 use Rattle.std.specs.Char.{is_ascii_digit}
@@ -11,10 +11,10 @@ use Rattle.hex.specs.Hex.{IsBytes, encode_lower, encode_with, lower_digits}
 use Rattle.hex.proofs.HexLemmas.{decode_of-encode_lower}
 use lib.Utf8.{encode, encodes, scalar, scalars}
 use Rattle.page_origin.specs.UrlText.{is_url_spelling}
-use Rattle.history_entry.proofs.Numerals.{decimal_digits}
+use Rattle.decimal_text.proofs.Numerals.{decimal_digits}
 use Rattle.entry_text.specs.Lines.{hex_text}
 use Rattle.entry_reading.specs.Entries.{IsNumber}
-use Rattle.entry_reading.specs.Fields.{before, behind, bytes_of, field_by, is_other, piece_of, text_of, url_of}
+use Rattle.entry_reading.specs.Fields.{before, bytes_of, field_by, is_lower_digit, is_other, next_field, onwards, piece_of, text_of, url_of}
 use Rattle.page_origin.proofs.Spellings.{are_visible, is_visible, list_all-weaker}
 
 -- ---- up to a mark
@@ -34,34 +34,39 @@ before_mark mark p (b ∷ text) rest other all on =
     let parts = and_parts (p b) (list_all p text) all in
     rw (differs mark p b other parts.0) (ap (λ t. b ∷ t) (before_mark mark p text rest other parts.1 on))
 
-pub behind_mark : (mark : ℕ) (p : ℕ → Bool) (text rest : List ℕ) → p mark ≡ false → list_all p text ≡ true → goes_on mark rest ≡ true → behind mark (text ++ rest) ≡ drop 1 rest
-behind_mark mark p [] [] other all on = refl
-behind_mark mark p [] (b ∷ rest) other all on = rw on refl
-behind_mark mark p (b ∷ text) rest other all on =
+pub onwards_mark : (mark : ℕ) (p : ℕ → Bool) (text rest : List ℕ) → p mark ≡ false → list_all p text ≡ true → goes_on mark rest ≡ true → onwards mark (text ++ rest) ≡ rest
+onwards_mark mark p [] [] other all on = refl
+onwards_mark mark p [] (b ∷ rest) other all on = rw on refl
+onwards_mark mark p (b ∷ text) rest other all on =
     let parts = and_parts (p b) (list_all p text) all in
-    rw (differs mark p b other parts.0) (behind_mark mark p text rest other parts.1 on)
+    rw (differs mark p b other parts.0) (onwards_mark mark p text rest other parts.1 on)
 
--- a mark parts a text
-pub around_mark : (mark : ℕ) (text front rest : List ℕ) → text ≡ front ++ mark ∷ rest → list_all (is_other mark) front ≡ true → (front ≡ before mark text) × (rest ≡ behind mark text)
-around_mark mark text front rest whole others =
-    let on : goes_on mark (mark ∷ rest) ≡ true = eq-eqb mark mark refl in
+-- the first mark parts a text
+pub parted : (mark : ℕ) (text : List ℕ) (i : ℕ) → list_all (is_other mark) (take i text) ≡ true → goes_on mark (drop i text) ≡ true → (take i text ≡ before mark text) × (drop i text ≡ onwards mark text)
+parted mark text i others on =
+    let whole : take i text ++ drop i text ≡ text = take-append-drop i text in
     let other : is_other mark mark ≡ false = rw (eq-eqb mark mark refl) refl in (
-      rw whole (sym (before_mark mark (is_other mark) front (mark ∷ rest) other others on)),
-      rw whole (sym (behind_mark mark (is_other mark) front (mark ∷ rest) other others on)),
+      sym (before_mark mark (is_other mark) (take i text) (drop i text) other others on) ∙ ap (before mark) whole,
+      sym (onwards_mark mark (is_other mark) (take i text) (drop i text) other others on) ∙ ap (onwards mark) whole,
     )
 
+-- at the first mark a text goes on with it
+pub at_mark : (mark : ℕ) (text : List ℕ) (i : ℕ) → i < length text → get_or text i 0 ≡ mark → goes_on mark (drop i text) ≡ true
+at_mark mark text i inside is = rw (drop-cons text i 0 inside) (eq-eqb (get_or text i 0) mark is)
+
 -- a text without a mark is all before it
-pub around_none : (mark : ℕ) (text : List ℕ) → list_all (is_other mark) text ≡ true → (text ≡ before mark text) × ([] ≡ behind mark text)
-around_none mark text others =
+pub unparted : (mark : ℕ) (text : List ℕ) → list_all (is_other mark) text ≡ true → (text ≡ before mark text) × ([] ≡ onwards mark text)
+unparted mark text others =
     let other : is_other mark mark ≡ false = rw (eq-eqb mark mark refl) refl in (
       sym (ap (before mark) (sym (append-nil text)) ∙ before_mark mark (is_other mark) text [] other others refl),
-      sym (ap (behind mark) (sym (append-nil text)) ∙ behind_mark mark (is_other mark) text [] other others refl),
+      sym (ap (onwards mark) (sym (append-nil text)) ∙ onwards_mark mark (is_other mark) text [] other others refl),
     )
 
 -- a field of visible bytes is read by itself
-pub field_back : {A : Type 0} (read : List ℕ → Option A) (text rest : List ℕ) (x : A) → are_visible text ≡ true → goes_on 32 rest ≡ true → read text ≡ Some x → field_by read (text ++ rest) ≡ Some (x, drop 1 rest)
+pub field_back : {A : Type 0} (read : List ℕ → Option A) (text rest : List ℕ) (x : A) → are_visible text ≡ true → goes_on 32 rest ≡ true → read text ≡ Some x → field_by read (32 ∷ (text ++ rest)) ≡ Some (x, rest)
+unfolding next_field
 field_back read text rest x visible on is =
-    rw (before_mark 32 is_visible text rest refl visible on, behind_mark 32 is_visible text rest refl visible on, is) refl
+    rw (before_mark 32 is_visible text rest refl visible on, onwards_mark 32 is_visible text rest refl visible on, is) refl
 
 -- ---- numbers
 
@@ -73,22 +78,28 @@ decimal_visible n small = list_all-weaker is_ascii_digit is_visible digit_visibl
 
 -- ---- hexadecimal
 
-abbrev digits_visible : ℕ → Bool
-digits_visible zero = true
-digits_visible (suc n) = is_visible (get_or lower_digits n 0) && digits_visible n
+abbrev digits_lower : ℕ → Bool
+digits_lower zero = true
+digits_lower (suc n) = is_lower_digit (get_or lower_digits n 0) && digits_lower n
 
-checked : (n : ℕ) → digits_visible n ≡ true → (d : ℕ) → d < n → is_visible (get_or lower_digits d 0) ≡ true
+checked : (n : ℕ) → digits_lower n ≡ true → (d : ℕ) → d < n → is_lower_digit (get_or lower_digits d 0) ≡ true
 checked zero all d small = absurd (omega arith)
 checked (suc n) all d small =
-    let parts = and_parts (is_visible (get_or lower_digits n 0)) (digits_visible n) all in
+    let parts = and_parts (is_lower_digit (get_or lower_digits n 0)) (digits_lower n) all in
     ⊎_elim (λ same. rw same parts.0) (λ other. checked n parts.1 d (omega arith)) (cases_eq d n)
 
-encoded_visible : (bytes : List ℕ) → IsBytes bytes → are_visible (encode_lower bytes) ≡ true
+encoded_lower : (bytes : List ℕ) → IsBytes bytes → list_all is_lower_digit (encode_lower bytes) ≡ true
 unfolding encode_with
-encoded_visible [] are = refl
-encoded_visible (b ∷ bytes) are =
+encoded_lower [] are = refl
+encoded_lower (b ∷ bytes) are =
     let byte : b < 256 = are 0 in
-    rw (checked 16 refl (b / 16) (omega arith), checked 16 refl (b % 16) (omega arith), encoded_visible bytes (λ i. are (suc i))) refl
+    rw (checked 16 refl (b / 16) (omega arith), checked 16 refl (b % 16) (omega arith), encoded_lower bytes (λ i. are (suc i))) refl
+
+lower_visible : (b : ℕ) → is_lower_digit b ≡ true → is_visible b ≡ true
+lower_visible b is = grind (arith, nat_tests)
+
+encoded_visible : (bytes : List ℕ) → IsBytes bytes → are_visible (encode_lower bytes) ≡ true
+encoded_visible bytes are = list_all-weaker is_lower_digit is_visible lower_visible (encode_lower bytes) (encoded_lower bytes are)
 
 pub hex_visible : (bytes : List ℕ) → IsBytes bytes → are_visible (hex_text bytes) ≡ true
 unfolding hex_text
@@ -103,10 +114,16 @@ no_dash : (b : ℕ) (bytes : List ℕ) → bytes_eq (encode_lower (b ∷ bytes))
 unfolding encode_with
 no_dash b bytes = and_false (get_or lower_digits (b / 16) 0 == 45)
 
+some_digits : (b : ℕ) (bytes : List ℕ) → nat_lt 0 (length (encode_lower (b ∷ bytes))) ≡ true
+unfolding encode_with
+some_digits b bytes = let long : 0 < length (encode_lower (b ∷ bytes)) = omega arith in grind (arith, nat_tests)
+
 pub bytes_back : (bytes : List ℕ) → IsBytes bytes → bytes_of (hex_text bytes) ≡ Some bytes
 unfolding bytes_of hex_text
 bytes_back [] are = refl
-bytes_back (b ∷ bytes) are = rw (no_dash b bytes) (rw (decode_of-encode_lower (b ∷ bytes) are) refl)
+bytes_back (b ∷ bytes) are =
+    rw (no_dash b bytes)
+    (rw (some_digits b bytes, encoded_lower (b ∷ bytes) are, decode_of-encode_lower (b ∷ bytes) are) refl)
 
 pub piece_back : (bytes : List ℕ) → IsBytes bytes → 0 < length bytes → piece_of (hex_text bytes) ≡ Some bytes
 unfolding piece_of

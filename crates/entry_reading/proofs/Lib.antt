@@ -3,5 +3,9 @@ pub mod OriginsBack
 pub mod RulesBack
 pub mod BodiesBack
 pub mod LinesBack
+pub mod FieldsSpelled
+pub mod OriginsSpelled
+pub mod BodiesSpelled
+pub mod LinesSpelled
 pub mod Answered
 pub mod FirstLine

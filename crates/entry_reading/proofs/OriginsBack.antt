@@ -17,8 +17,8 @@ use Rattle.entry_text.specs.Lines.{origin_line}
 use Rattle.entry_reading.specs.Entries.{IsNumber, IsOrigin, IsPort, IsSite}
 use Rattle.entry_reading.specs.Fields.{before, host_length, opaque_of, origin_of, port_of, site_of, tuple_by, tuple_of}
 use Rattle.page_origin.proofs.Spellings.{IsAddress, address_of, are_visible, host_visible, is_visible, second_answer}
-use Rattle.entry_reading.proofs.FieldsBack.{before_mark, behind_mark, decimal_visible, differs, goes_on}
-use Rattle.history_entry.proofs.Numerals.{decimal_digits, number_back}
+use Rattle.entry_reading.proofs.FieldsBack.{before_mark, decimal_visible, differs, goes_on, onwards_mark}
+use Rattle.decimal_text.proofs.Numerals.{decimal_digits, number_back}
 
 -- ---- the host at the front
 
@@ -67,7 +67,7 @@ port_back scheme port small =
     (λ own. let e : port ≡ default_port_of scheme = eqb-true port (default_port_of scheme) own in rw own (ap (λ (n : ℕ). Some n) (sym e)))
     (λ other.
     let test : nat_lt port (2 ^ 16) ≡ true = grind (arith, nat_tests) in
-    rw other (rw (number_back port (omega arith)) (rw test refl)))
+    rw other (rw (number_back port (omega arith)) (rw (test, other) refl)))
     (cases_Bool (port == default_port_of scheme))
 
 abbrev tuple : Scheme → List ℕ → ℕ → TupleOrigin
@@ -106,7 +106,7 @@ site_back site valid = site_by site.scheme site.host site.only valid.0 valid.1
 opaque_back : (document : ℕ) (site : Site) → IsNumber document → IsSite site → opaque_of (decimal document ++ 58 ∷ site_text site) ≡ Some (Opaque (record { document = document; precursor = site }))
 opaque_back document site small valid =
     rw (before_mark 58 is_ascii_digit (decimal document) (58 ∷ site_text site) refl (decimal_digits document small) refl)
-    (rw (behind_mark 58 is_ascii_digit (decimal document) (58 ∷ site_text site) refl (decimal_digits document small) refl)
+    (rw (onwards_mark 58 is_ascii_digit (decimal document) (58 ∷ site_text site) refl (decimal_digits document small) refl)
     (rw (number_back document small) (rw (site_back site valid) refl)))
 
 opaque_parts : (document site : List ℕ) → (document ++ codes ":") ++ site ≡ document ++ 58 ∷ site

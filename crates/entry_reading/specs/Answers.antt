@@ -27,6 +27,12 @@ TakesBy view (Err NoMemory) rest read = ⊤
 abbrev pub Takes : {A : Type 0} → Result A EntryStop → List ℕ → Option (A × List ℕ) → Type 0
 Takes result rest read = TakesBy (λ x. x) result rest read
 
+-- what stands behind a mark at the front of a text, for a step that gives no value
+abbrev pub Passes : Result Unit EntryStop → List ℕ → Option (List ℕ) → Type 0
+Passes (Ok x) rest left = left ≡ Some rest
+Passes (Err BadLine) rest left = left ≡ None
+Passes (Err NoMemory) rest left = ⊤
+
 -- a refused host or URL is a bad line, unless memory ran out
 abbrev pub stop_of_refusal : TextRefusal → EntryStop
 stop_of_refusal BadText = BadLine

@@ -1,8 +1,7 @@
--- For the proof that reading inverts printing: how the bodies of messages and replies are read, field by field. A reader may take more than
--- spellings.
+-- For the proof that reading inverts printing: how the bodies of messages and replies are read, field by field.
 use Rattle.std.specs.Prelude.{ℕ, Bool, true, false, List, bytes_eq, codes, Option, Some, None, if◌then◌else◌}
 use Rattle.page_origin.specs.declared.origin.Origin.{Origin}
-use Rattle.history_entry.specs.Numbers.{decimal_number}
+use Rattle.decimal_text.specs.Numbers.{decimal_number}
 use Rattle.history_entry.specs.declared.body.Body.{Body}
 use Rattle.history_entry.specs.declared.body.Body.TheVariants.{AddFrame, Ask, DidCommit, Fetch, Navigate, OpenPage, Post, RemoveFrame}
 use Rattle.history_entry.specs.declared.body.Message.{Message}
@@ -15,9 +14,10 @@ use Rattle.history_entry.specs.declared.body.Target.TheVariants.{Any, Of, Own}
 use Rattle.history_entry.specs.declared.reply.Reply.{Reply}
 use Rattle.history_entry.specs.declared.reply.Reply.TheVariants.{Answer, Deny, Drop, Kill, Ok as Okay}
 use Rattle.history_entry.specs.declared.rule.Rule.{Rule}
-use Rattle.entry_reading.specs.Fields.{before, behind, field_by, origin_of, rule_of, text_of, ◌>>=◌}
+use Rattle.call_answers.specs.Chains.{◌>>=◌}
+use Rattle.entry_reading.specs.Fields.{before, field_by, next_field, onwards, origin_of, rule_of, text_of}
 
--- a number, and what stands behind it. So with the other fields
+-- a number behind a space, and what is left. So with the other fields
 abbrev pub number : List ℕ → Option (ℕ × List ℕ)
 number text = field_by decimal_number text
 
@@ -48,11 +48,14 @@ abbrev pub target_of : List ℕ → Option Target
 target_of text = if bytes_eq text (codes "*") then Some Any
     else (if bytes_eq text (codes "/") then Some Own else (origin_of text >>= λ origin. Some (Of origin)))
 
--- a frame's source: a word, and a text or a number
-unfoldable pub src : List ℕ → Option (Src × List ℕ)
-src text = if bytes_eq (before 32 text) (codes "url") then (text_field (behind 32 text) >>= λ url. Some (Url url.0, url.1))
-    else (if bytes_eq (before 32 text) (codes "doc") then (number (behind 32 text) >>= λ index. Some (Doc index.0, index.1))
-    else None)
+-- a frame's source behind its word, which tells whether it is a text or a number
+unfoldable pub src_by : List ℕ → List ℕ → Option (Src × List ℕ)
+src_by word text = if bytes_eq word (codes "url") then (text_field text >>= λ url. Some (Url url.0, url.1))
+    else (if bytes_eq word (codes "doc") then (number text >>= λ index. Some (Doc index.0, index.1)) else None)
+
+-- a frame's source
+abbrev pub src : List ℕ → Option (Src × List ℕ)
+src text = next_field text >>= λ word. src_by word.0 word.1
 
 -- `navigate F ORIGIN HEX`, behind its word
 unfoldable pub navigate : List ℕ → Option (Body × List ℕ)
@@ -110,7 +113,7 @@ did_commit text = do
   url ← text_field committed.1
   Some (DidCommit navigation.0 url.0 committed.0, url.1)
 
--- a body: its first word tells which one
+-- a body behind its word, which tells which one it is
 unfoldable pub body_by : List ℕ → List ℕ → Option (Body × List ℕ)
 body_by word text = if bytes_eq word (codes "navigate") then navigate text
     else (if bytes_eq word (codes "frame") then add_frame text
@@ -121,18 +124,25 @@ body_by word text = if bytes_eq word (codes "navigate") then navigate text
     else (if bytes_eq word (codes "ask") then ask text
     else (if bytes_eq word (codes "commit") then did_commit text else None)))))))
 
--- a message: the number of its document and its body
+-- a body
+abbrev pub body : List ℕ → Option (Body × List ℕ)
+body text = next_field text >>= λ word. body_by word.0 word.1
+
+-- a message: the number of its document, which no space stands before, and its body
 unfoldable pub message : List ℕ → Option (Message × List ℕ)
 message text = do
-  document ← number text
-  body ← body_by (before 32 document.1) (behind 32 document.1)
-  Some (record { document = document.0; body = body.0 }, body.1)
+  document ← decimal_number (before 32 text)
+  said ← body (onwards 32 text)
+  Some (record { document = document; body = said.0 }, said.1)
 
--- a reply: its first word tells which one
-unfoldable pub reply : List ℕ → Option (Reply × List ℕ)
-reply text = if bytes_eq (before 32 text) (codes "ok") then Some (Okay, behind 32 text)
-    else (if bytes_eq (before 32 text) (codes "answer") then (text_field (behind 32 text) >>= λ x. Some (Answer x.0, x.1))
-    else (if bytes_eq (before 32 text) (codes "deny") then (rule (behind 32 text) >>= λ x. Some (Deny x.0, x.1))
-    else (if bytes_eq (before 32 text) (codes "drop") then (rule (behind 32 text) >>= λ x. Some (Drop x.0, x.1))
-    else (if bytes_eq (before 32 text) (codes "kill") then (rule (behind 32 text) >>= λ x. Some (Kill x.0, x.1))
-    else None))))
+-- a reply behind its word, which tells which one it is
+unfoldable pub reply_by : List ℕ → List ℕ → Option (Reply × List ℕ)
+reply_by word text = if bytes_eq word (codes "ok") then Some (Okay, text)
+    else (if bytes_eq word (codes "answer") then (text_field text >>= λ x. Some (Answer x.0, x.1))
+    else (if bytes_eq word (codes "deny") then (rule text >>= λ x. Some (Deny x.0, x.1))
+    else (if bytes_eq word (codes "drop") then (rule text >>= λ x. Some (Drop x.0, x.1))
+    else (if bytes_eq word (codes "kill") then (rule text >>= λ x. Some (Kill x.0, x.1)) else None))))
+
+-- a reply, which no space stands before
+abbrev pub reply : List ℕ → Option (Reply × List ℕ)
+reply text = reply_by (before 32 text) (onwards 32 text)

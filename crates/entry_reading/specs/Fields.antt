@@ -1,10 +1,11 @@
--- For the proof that reading inverts printing: how the fields of a line are read, from the left. Which lines there are is said by printing alone.
--- A reader may take more than spellings: what is read is printed again and compared.
-use Rattle.std.specs.Prelude.{ℕ, ◌+◌, ◌^◌, Bool, not, ◌==◌, nat_lt, nat_eq, List, [], ◌∷◌, length, drop, take, codes, bytes_eq, slice_index, find, Option, Some, None, option_map, if◌then◌else◌}
+-- For the proof that reading inverts printing: how the fields of a line are read, from the left. Which lines there are is said by printing alone;
+-- the proof shows that each reader takes the spellings that are printed, and nothing else.
+use Rattle.std.specs.Prelude.{ℕ, ◌+◌, ◌^◌, Bool, not, ◌==◌, ◌&&◌, ◌||◌, nat_lt, nat_le, nat_eq, List, [], ◌∷◌, length, drop, take, codes, bytes_eq, slice_index, find, Option, Some, None, if◌then◌else◌}
 use Rattle.std.specs.Result.{result_ok}
-use Rattle.std.specs.List.{starts_with}
+use Rattle.std.specs.List.{list_all, starts_with}
 use Rattle.std.specs.Str.{is_utf8}
 use Rattle.hex.specs.Hex.{decode_of}
+use Rattle.call_answers.specs.Chains.{◌>>=◌}
 use Rattle.page_origin.specs.HostSpelling.{is_host}
 use Rattle.page_origin.specs.UrlText.{is_url_spelling}
 use Rattle.page_origin.specs.Origins.{default_port_of}
@@ -14,16 +15,10 @@ use Rattle.page_origin.specs.declared.site.Site.{Site}
 use Rattle.page_origin.specs.declared.origin.TupleOrigin.{TupleOrigin}
 use Rattle.page_origin.specs.declared.origin.Origin.{Origin}
 use Rattle.page_origin.specs.declared.origin.Origin.TheVariants.{Opaque, Tuple}
-use Rattle.history_entry.specs.Numbers.{decimal_number}
+use Rattle.decimal_text.specs.Numbers.{decimal_number}
 use Rattle.history_entry.specs.RuleText.{rule_text}
 use Rattle.history_entry.specs.declared.rule.Rule.{Rule}
 use Rattle.history_entry.specs.declared.rule.Rule.TheVariants.{K1, K2, K3, K4, K5, K6, K7, K8, K9, K10, G1, G2, G3, M1, M2, N1, N2, N3, N4, N5, N6, N7, N8, N9, F1, L1, L2, S1, S2, S3, S4, A1, A2, A3, A4, A5, B1, B2, B3, B4, B5, B6, B7, B8}
-
--- the next step of reading, on what was read
-infixl 10 ◌>>=◌
-abbrev pub ◌>>=◌ : {A B : Type 0} → Option A → (A → Option B) → Option B
-(Some x) >>= f = f x
-None >>= f = None
 
 -- another byte than the mark
 abbrev pub is_other : ℕ → ℕ → Bool
@@ -34,22 +29,43 @@ abbrev pub before : ℕ → List ℕ → List ℕ
 before mark [] = []
 before mark (b ∷ text) = if b == mark then [] else b ∷ before mark text
 
--- what stands behind the first mark
-abbrev pub behind : ℕ → List ℕ → List ℕ
-behind mark [] = []
-behind mark (b ∷ text) = if b == mark then text else behind mark text
+-- what stands from the first mark on
+abbrev pub onwards : ℕ → List ℕ → List ℕ
+onwards mark [] = []
+onwards mark (b ∷ text) = if b == mark then b ∷ text else onwards mark text
 
--- the field at the front, read by itself, and what stands behind its space
+-- what stands behind a mark at the front
+abbrev pub past : ℕ → List ℕ → Option (List ℕ)
+past mark [] = None
+past mark (b ∷ text) = if b == mark then Some text else None
+
+-- what stands behind ` => ` at the front
+abbrev pub past_arrow : List ℕ → Option (List ℕ)
+past_arrow text = if starts_with nat_eq text (codes " => ") then Some (drop 4 text) else None
+
+-- the field behind a space at the front, up to the next space, and what stands from that on
+unfoldable pub next_field : List ℕ → Option (List ℕ × List ℕ)
+next_field text = past 32 text >>= λ rest. Some (before 32 rest, onwards 32 rest)
+
+-- the next field, read by itself, and what is left
 abbrev pub field_by : {A : Type 0} → (List ℕ → Option A) → List ℕ → Option (A × List ℕ)
-field_by read text = read (before 32 text) >>= λ x. Some (x, behind 32 text)
+field_by read text = do
+  field ← next_field text
+  x ← read field.0
+  Some (x, field.1)
 
--- what was read, whatever is left
-abbrev pub taken : {A : Type 0} → Option (A × List ℕ) → Option A
-taken read = option_map (λ p. p.0) read
+-- what was read, where nothing is left
+abbrev pub whole : {A : Type 0} → Option (A × List ℕ) → Option A
+whole read = read >>= λ p. if length p.1 == 0 then Some p.0 else None
 
--- bytes in hexadecimal, and none of a dash
+-- a hexadecimal digit, and none in upper case
+abbrev pub is_lower_digit : ℕ → Bool
+is_lower_digit b = (nat_le 48 b && nat_le b 57) || (nat_le 97 b && nat_le b 102)
+
+-- bytes in lower-case hexadecimal, and none of a dash
 unfoldable pub bytes_of : List ℕ → Option (List ℕ)
-bytes_of text = if bytes_eq text (codes "-") then Some [] else result_ok (decode_of text)
+bytes_of text = if bytes_eq text (codes "-") then Some []
+    else (if nat_lt 0 (length text) && list_all is_lower_digit text then result_ok (decode_of text) else None)
 
 -- the bytes of a piece, one at least
 unfoldable pub piece_of : List ℕ → Option (List ℕ)
@@ -59,7 +75,7 @@ piece_of text = bytes_of text >>= λ bytes. if length bytes == 0 then None else 
 unfoldable pub text_of : List ℕ → Option (List ℕ)
 text_of text = bytes_of text >>= λ bytes. if is_utf8 bytes then Some bytes else None
 
--- a URL, which is all that is left
+-- a URL
 unfoldable pub url_of : List ℕ → Option (List ℕ)
 url_of text = if is_url_spelling text then Some text else None
 
@@ -77,10 +93,16 @@ scheme_of text =
 abbrev pub host_length : List ℕ → ℕ
 host_length text = if slice_index text 0 == 91 then length (before 93 text) + 1 else length (before 58 text)
 
+-- whether a number is a port that is written out: one of 16 bits, and not the scheme's own
+abbrev pub is_written_port : Scheme → ℕ → Bool
+is_written_port scheme n = nat_lt n (2 ^ 16) && not (n == default_port_of scheme)
+
 -- the port behind a colon, and the scheme's own where nothing is left
 abbrev pub port_of : Scheme → List ℕ → Option ℕ
 port_of scheme [] = Some (default_port_of scheme)
-port_of scheme (b ∷ text) = decimal_number text >>= λ n. if nat_lt n (2 ^ 16) then Some n else None
+port_of scheme (b ∷ text) = if b == 58
+    then (decimal_number text >>= λ n. if is_written_port scheme n then Some n else None)
+    else None
 
 -- a host and perhaps a port
 abbrev pub tuple_by : Scheme → List ℕ → Option TupleOrigin
@@ -112,7 +134,8 @@ site_of text = if starts_with nat_eq text (codes "=") then isolated_site_of (dro
 abbrev pub opaque_of : List ℕ → Option Origin
 opaque_of text = do
   document ← decimal_number (before 58 text)
-  precursor ← site_of (behind 58 text)
+  rest ← past 58 (onwards 58 text)
+  precursor ← site_of rest
   Some (Opaque (record { document = document; precursor = precursor }))
 
 -- an origin

@@ -5,7 +5,7 @@ ghost use Rattle.entry_reading.specs.Answers.{Gives, Takes};
 ghost use Rattle.entry_reading.specs.Fields as fields;
 ghost use Rattle.entry_reading.specs.Bodies as bodies;
 
-use crate::fields::Fields;
+use crate::fields::{Fields, number_of};
 use crate::origins::origin_of;
 use crate::stop::EntryStop;
 use history_entry::{Body, Message, Mode, RawUrl, RequestText, ServiceName, Src, Target};
@@ -51,26 +51,29 @@ impl<'a> Fields<'a> {
     fn mode(&mut self) -> Result<Mode, EntryStop>
         ensures { Takes result self.new.rest.now (fields.field_by bodies.mode_of self.old.rest.now) }
     {
-        mode_of(self.word())
+        let field = self.field()?;
+        mode_of(field)
     }
 
     fn sandbox(&mut self) -> Result<bool, EntryStop>
         ensures { Takes result self.new.rest.now (fields.field_by bodies.sandbox_of self.old.rest.now) }
     {
-        sandbox_of(self.word())
+        let field = self.field()?;
+        sandbox_of(field)
     }
 
     fn target(&mut self, alloc: Global) -> Result<Target, EntryStop>
         ensures { Takes result self.new.rest.now (fields.field_by bodies.target_of self.old.rest.now) }
     {
-        target_of(alloc, self.word())
+        let field = self.field()?;
+        target_of(alloc, field)
     }
 
-    #[tactic(auto, unfolding(crate::specs::Bodies::src))]
+    #[tactic(auto, unfolding(crate::specs::Bodies::src_by))]
     fn src(&mut self, alloc: Global) -> Result<Src, EntryStop>
         ensures { Takes result self.new.rest.now (bodies.src self.old.rest.now) }
     {
-        let word = self.word();
+        let word = self.field()?;
         if word == b"url".as_slice() {
             Ok(Src::Url(RawUrl::new(self.text(alloc)?)))
         } else if word == b"doc".as_slice() {
@@ -175,9 +178,9 @@ impl<'a> Fields<'a> {
 
     #[tactic(auto, unfolding(crate::specs::Bodies::body_by))]
     fn body(&mut self, alloc: Global) -> Result<Body, EntryStop>
-        ensures { Takes result self.new.rest.now (bodies.body_by (fields.before 32 self.old.rest.now) (fields.behind 32 self.old.rest.now)) }
+        ensures { Takes result self.new.rest.now (bodies.body self.old.rest.now) }
     {
-        let word = self.word();
+        let word = self.field()?;
         if word == b"navigate".as_slice() {
             self.navigate(alloc)
         } else if word == b"frame".as_slice() {
@@ -199,12 +202,12 @@ impl<'a> Fields<'a> {
         }
     }
 
-    /// The message that the next fields are.
+    /// The message at the front, which no space stands before.
     #[tactic(auto, unfolding(crate::specs::Bodies::message))]
     pub fn message(&mut self, alloc: Global) -> Result<Message, EntryStop>
         ensures { Takes result self.new.rest.now (bodies.message self.old.rest.now) }
     {
-        let document = self.number()?;
+        let document = number_of(self.word())?;
         let body = self.body(alloc)?;
         Ok(Message { document, body })
     }

@@ -1,8 +1,7 @@
 //! Reading the lines of a history's text back: entries, messages and replies from their spellings.
 //!
 //! The format is that of `entry_text`: each entry, message and reply has one spelling, and exactly the spellings are
-//! read. A reader goes from field to field and may take more than spellings on its way, as an upper-case digit or any word
-//! for an arrow; what it read is then printed again and compared with the text, so that only spellings pass.
+//! read. A reader goes from field to field, and each field's reader takes its spellings alone, so nothing is printed again.
 #![tactic(auto)]
 
 mod bodies;

@@ -1,21 +1,32 @@
 //! The fields of each kind of entry.
 
-ghost use Rattle.std.specs.Prelude.{◌≡◌};
-ghost use Rattle.entry_reading.specs.Answers.{Gives, Takes};
+ghost use Rattle.entry_reading.specs.Answers.{Takes};
 ghost use Rattle.entry_reading.specs.Fields as fields;
 ghost use Rattle.entry_reading.specs.Reading as reading;
 
 use crate::fields::{Fields, url_of};
 use crate::stop::EntryStop;
 use history_entry::{EndHow, Entry, HopOf, LocalWhat, RawUrl, RequestText};
+use page_origin::UrlText;
 use std::alloc::Global;
 
 impl<'a> Fields<'a> {
-    #[tactic(auto, unfolding(crate::specs::Reading::hop_of))]
+    /// The URL that the next field is, which is all that is left.
+    #[tactic(auto, unfolding(crate::specs::Reading::url))]
+    fn url(&mut self, alloc: Global) -> Result<UrlText, EntryStop>
+        ensures { Takes result self.new.rest.now (reading.url self.old.rest.now) }
+    {
+        self.space()?;
+        let url = url_of(alloc, self.rest)?;
+        self.rest = &[];
+        Ok(url)
+    }
+
+    #[tactic(auto, unfolding(crate::specs::Reading::hop_of_by))]
     fn hop_of(&mut self) -> Result<HopOf, EntryStop>
         ensures { Takes result self.new.rest.now (reading.hop_of self.old.rest.now) }
     {
-        let word = self.word();
+        let word = self.field()?;
         if word == b"nav".as_slice() {
             Ok(HopOf::Nav(self.number()?))
         } else if word == b"req".as_slice() {
@@ -25,11 +36,11 @@ impl<'a> Fields<'a> {
         }
     }
 
-    #[tactic(auto, unfolding(crate::specs::Reading::what))]
+    #[tactic(auto, unfolding(crate::specs::Reading::what_by))]
     fn what(&mut self, alloc: Global) -> Result<LocalWhat, EntryStop>
-        ensures { Gives result (reading.what self.old.rest.now) }
+        ensures { Takes result self.new.rest.now (reading.what self.old.rest.now) }
     {
-        let word = self.word();
+        let word = self.field()?;
         if word == b"waited".as_slice() {
             Ok(LocalWhat::Waited)
         } else if word == b"skipped".as_slice() {
@@ -43,11 +54,11 @@ impl<'a> Fields<'a> {
         }
     }
 
-    #[tactic(auto, unfolding(crate::specs::Reading::how))]
+    #[tactic(auto, unfolding(crate::specs::Reading::how_by))]
     fn how(&mut self) -> Result<EndHow, EntryStop>
-        ensures { Gives result (reading.how self.old.rest.now) }
+        ensures { Takes result self.new.rest.now (reading.how self.old.rest.now) }
     {
-        let word = self.word();
+        let word = self.field()?;
         if word == b"whole".as_slice() {
             Ok(EndHow::Whole)
         } else if word == b"blocked".as_slice() {
@@ -61,28 +72,28 @@ impl<'a> Fields<'a> {
 
     #[tactic(auto, unfolding(crate::specs::Reading::hop))]
     fn hop(&mut self, alloc: Global) -> Result<Entry, EntryStop>
-        ensures { Gives result (reading.hop self.old.rest.now) }
+        ensures { Takes result self.new.rest.now (reading.hop self.old.rest.now) }
     {
         let of = self.hop_of()?;
-        let url = url_of(alloc, self.rest)?;
+        let url = self.url(alloc)?;
         Ok(Entry::Hop(of, url))
     }
 
     #[tactic(auto, unfolding(crate::specs::Reading::order))]
     fn order(&mut self, alloc: Global) -> Result<Entry, EntryStop>
-        ensures { Gives result (reading.order self.old.rest.now) }
+        ensures { Takes result self.new.rest.now (reading.order self.old.rest.now) }
     {
         let navigation = self.number()?;
         let process = self.number()?;
         let site = self.site(alloc)?;
         let origin = self.origin(alloc)?;
-        let url = url_of(alloc, self.rest)?;
+        let url = self.url(alloc)?;
         Ok(Entry::Order(navigation, process, site, origin, url))
     }
 
     #[tactic(auto, unfolding(crate::specs::Reading::nav_end))]
     fn nav_end(&mut self) -> Result<Entry, EntryStop>
-        ensures { Gives result (reading.nav_end self.old.rest.now) }
+        ensures { Takes result self.new.rest.now (reading.nav_end self.old.rest.now) }
     {
         let navigation = self.number()?;
         let rule = self.rule()?;
@@ -91,33 +102,34 @@ impl<'a> Fields<'a> {
 
     #[tactic(auto, unfolding(crate::specs::Reading::said))]
     fn said(&mut self, alloc: Global) -> Result<Entry, EntryStop>
-        ensures { Gives result (reading.said self.old.rest.now) }
+        ensures { Takes result self.new.rest.now (reading.said self.old.rest.now) }
     {
         let process = self.number()?;
         let document = self.number()?;
         let action = self.number()?;
+        self.space()?;
         let message = self.message(alloc)?;
-        let _arrow = self.word();
+        self.arrow()?;
         let reply = self.reply(alloc)?;
         Ok(Entry::Said(process, document, action, message, reply))
     }
 
     #[tactic(auto, unfolding(crate::specs::Reading::commit))]
     fn commit(&mut self, alloc: Global) -> Result<Entry, EntryStop>
-        ensures { Gives result (reading.commit self.old.rest.now) }
+        ensures { Takes result self.new.rest.now (reading.commit self.old.rest.now) }
     {
         let process = self.number()?;
         let navigation = self.number()?;
         let origin = self.origin(alloc)?;
         let url = RawUrl::new(self.text(alloc)?);
-        let _arrow = self.word();
+        self.arrow()?;
         let reply = self.reply(alloc)?;
         Ok(Entry::Commit(process, navigation, origin, url, reply))
     }
 
     #[tactic(auto, unfolding(crate::specs::Reading::local))]
     fn local(&mut self, alloc: Global) -> Result<Entry, EntryStop>
-        ensures { Gives result (reading.local self.old.rest.now) }
+        ensures { Takes result self.new.rest.now (reading.local self.old.rest.now) }
     {
         let process = self.number()?;
         let document = self.number()?;
@@ -128,7 +140,7 @@ impl<'a> Fields<'a> {
 
     #[tactic(auto, unfolding(crate::specs::Reading::head))]
     fn head(&mut self) -> Result<Entry, EntryStop>
-        ensures { Gives result (reading.head self.old.rest.now) }
+        ensures { Takes result self.new.rest.now (reading.head self.old.rest.now) }
     {
         let request = self.number()?;
         let rule = self.rule()?;
@@ -137,7 +149,7 @@ impl<'a> Fields<'a> {
 
     #[tactic(auto, unfolding(crate::specs::Reading::piece))]
     fn piece_entry(&mut self, alloc: Global) -> Result<Entry, EntryStop>
-        ensures { Gives result (reading.piece self.old.rest.now) }
+        ensures { Takes result self.new.rest.now (reading.piece self.old.rest.now) }
     {
         let request = self.number()?;
         let index = self.number()?;
@@ -147,17 +159,17 @@ impl<'a> Fields<'a> {
 
     #[tactic(auto, unfolding(crate::specs::Reading::end))]
     fn end(&mut self) -> Result<Entry, EntryStop>
-        ensures { Gives result (reading.end self.old.rest.now) }
+        ensures { Takes result self.new.rest.now (reading.end self.old.rest.now) }
     {
         let request = self.number()?;
         let how = self.how()?;
         Ok(Entry::End(request, how))
     }
 
-    /// The entry that the fields are.
-    #[tactic(auto, unfolding(crate::specs::Reading::entry_of, crate::specs::Reading::entry_by))]
+    /// The entry at the front: its word tells which kind it is.
+    #[tactic(auto, unfolding(crate::specs::Reading::entry_by))]
     pub fn entry(&mut self, alloc: Global) -> Result<Entry, EntryStop>
-        ensures { Gives result (reading.entry_of self.old.rest.now) }
+        ensures { Takes result self.new.rest.now (reading.entry_by (fields.before 32 self.old.rest.now) (fields.onwards 32 self.old.rest.now)) }
     {
         let word = self.word();
         if word == b"open".as_slice() {

@@ -4,7 +4,7 @@ ghost use Rattle.std.specs.Prelude.{◌≡◌, min, length, option_map};
 ghost use Rattle.entry_reading.specs.Answers.{Gives, GivesBy, Takes};
 ghost use Rattle.entry_reading.specs.Fields as fields;
 
-use crate::fields::{Fields, around, host_of, number_of};
+use crate::fields::{Fields, around, host_of, number_of, past};
 use crate::stop::EntryStop;
 use page_origin::{OpaqueOrigin, Origin, Scheme, Site, TupleOrigin};
 use std::alloc::Global;
@@ -41,13 +41,14 @@ fn port_of(scheme: Scheme, text: &[u8]) -> Result<u16, EntryStop>
 {
     match text {
         [] => Ok(scheme.default_port()),
-        [_, digits @ ..] => {
+        [b':', digits @ ..] => {
             let port = number_of(digits)?;
-            if port > u16::MAX as u32 {
+            if port > u16::MAX as u32 || port == scheme.default_port() as u32 {
                 return Err(EntryStop::BadLine);
             }
             Ok(port as u16)
         }
+        _ => Err(EntryStop::BadLine),
     }
 }
 
@@ -105,8 +106,9 @@ fn site_of(alloc: Global, text: &[u8]) -> Result<Site, EntryStop>
 fn opaque_of(alloc: Global, text: &[u8]) -> Result<Origin, EntryStop>
     ensures { Gives result (fields.opaque_of text.now) }
 {
-    let (document, precursor) = around(text, b':');
+    let (document, rest) = around(text, b':');
     let document = number_of(document)?;
+    let precursor = past(rest, b':')?;
     let precursor = site_of(alloc, precursor)?;
     Ok(Origin::Opaque(OpaqueOrigin {
         document,
@@ -130,13 +132,15 @@ impl<'a> Fields<'a> {
     pub fn site(&mut self, alloc: Global) -> Result<Site, EntryStop>
         ensures { Takes result self.new.rest.now (fields.field_by fields.site_of self.old.rest.now) }
     {
-        site_of(alloc, self.word())
+        let field = self.field()?;
+        site_of(alloc, field)
     }
 
     /// The origin that the next field is.
     pub fn origin(&mut self, alloc: Global) -> Result<Origin, EntryStop>
         ensures { Takes result self.new.rest.now (fields.field_by fields.origin_of self.old.rest.now) }
     {
-        origin_of(alloc, self.word())
+        let field = self.field()?;
+        origin_of(alloc, field)
     }
 }

@@ -9,8 +9,8 @@ use history_entry::{Reply, RequestText};
 use std::alloc::Global;
 
 impl<'a> Fields<'a> {
-    /// The reply that the next fields are.
-    #[tactic(auto, unfolding(crate::specs::Bodies::reply))]
+    /// The reply at the front, which no space stands before.
+    #[tactic(auto, unfolding(crate::specs::Bodies::reply_by))]
     pub fn reply(&mut self, alloc: Global) -> Result<Reply, EntryStop>
         ensures { Takes result self.new.rest.now (bodies.reply self.old.rest.now) }
     {

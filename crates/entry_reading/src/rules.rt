@@ -85,6 +85,7 @@ impl<'a> Fields<'a> {
     pub fn rule(&mut self) -> Result<Rule, EntryStop>
         ensures { Takes result self.new.rest.now (fields.field_by fields.rule_of self.old.rest.now) }
     {
-        rule_of(self.word()).ok_or(EntryStop::BadLine)
+        let field = self.field()?;
+        rule_of(field).ok_or(EntryStop::BadLine)
     }
 }

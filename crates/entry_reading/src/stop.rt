@@ -15,17 +15,6 @@ pub enum EntryStop {
     NoMemory,
 }
 
-impl From<NoMemory> for EntryStop {
-    ghost use Rattle.std.specs.Prelude.{◌≡◌};
-    ghost use Rattle.entry_reading.specs.declared.stop.EntryStop.TheVariants.{NoMemory as OutOfMemory};
-
-    ghost from_gives = { λ _ stop. stop ≡ OutOfMemory };
-
-    fn from(_: NoMemory) -> EntryStop {
-        EntryStop::NoMemory
-    }
-}
-
 impl From<TextRefusal> for EntryStop {
     ghost use Rattle.std.specs.Prelude.{◌≡◌};
     ghost use Rattle.entry_reading.specs.Answers.{stop_of_refusal};
@@ -65,17 +54,6 @@ pub enum MessageStop {
     NoMemory,
 }
 
-impl From<NoMemory> for MessageStop {
-    ghost use Rattle.std.specs.Prelude.{◌≡◌};
-    ghost use Rattle.entry_reading.specs.declared.stop.MessageStop.TheVariants.{NoMemory as OutOfMemory};
-
-    ghost from_gives = { λ _ stop. stop ≡ OutOfMemory };
-
-    fn from(_: NoMemory) -> MessageStop {
-        MessageStop::NoMemory
-    }
-}
-
 /// Why a text is read as no reply.
 #[derive(Clone, Copy, Debug, PartialEq, Eq, Error)]
 pub enum ReplyStop {
@@ -85,15 +63,4 @@ pub enum ReplyStop {
     /// Memory ran out.
     #[error("{}", NoMemory)]
     NoMemory,
-}
-
-impl From<NoMemory> for ReplyStop {
-    ghost use Rattle.std.specs.Prelude.{◌≡◌};
-    ghost use Rattle.entry_reading.specs.declared.stop.ReplyStop.TheVariants.{NoMemory as OutOfMemory};
-
-    ghost from_gives = { λ _ stop. stop ≡ OutOfMemory };
-
-    fn from(_: NoMemory) -> ReplyStop {
-        ReplyStop::NoMemory
-    }
 }

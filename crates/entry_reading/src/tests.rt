@@ -1,5 +1,6 @@
 mod fields;
 mod lines;
+mod values;
 
 use crate::{EntryStop, MessageStop, ReplyStop, read_entry, read_message, read_reply};
 use entry_text::{message_text, put_entry, reply_text};

@@ -1,8 +1,5 @@
-pub mod Rows
-pub mod Bound
-pub mod Runs
 pub mod Ranges
-pub mod Listed
-pub mod OneRun
-pub mod OneEach
-pub mod OneSpelling
+pub mod Runs
+pub mod Origins
+pub mod Answered
+pub mod Crashes

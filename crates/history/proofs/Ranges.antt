@@ -4,7 +4,7 @@ use Rattle.std.specs.List.{filter_map, flat_map, range_with_len}
 use Rattle.std.specs.Option.{option_to_list}
 use Rattle.std.proofs.lemmas.List.Elements.{filter_map-append}
 use Rattle.std.proofs.lemmas.Grind.{flat_map-append, common_steps}
-use Rattle.history_facts.proofs.Counts.{range_more}
+use Rattle.plain_facts.proofs.Counts.{range_more}
 
 one_more : {B : Type 0} (f : ℕ → Option B) (n : ℕ) → filter_map f (n ∷ []) ≡ option_to_list (f n)
 one_more f n = elim (f n) as (λ o. Rattle.std.specs.List.cons_option o [] ≡ option_to_list o) [ None ↦ refl | Some x ↦ refl ]

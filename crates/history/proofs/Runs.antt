@@ -1,36 +1,24 @@
 -- A run is legal, so it is no longer than the bound, and each turn makes it longer.
-use Rattle.std.proofs.Common.{◌≡◌, ℕ, ◌+◌, ◌*◌, ◌-◌, ◌<◌, ◌≤◌, List, [], ◌∷◌, ◌++◌, length, take, Option, Some, None, arith, length-append, subst, suc, zero}
+use Rattle.std.proofs.Common.{◌≡◌, ◌+◌, ◌-◌, ◌<◌, List, [], ◌∷◌, ◌++◌, length, None, refl, arith, length-append}
 use Rattle.std.specs.List.{slice_get}
 use Rattle.history_entry.specs.declared.entry.Entry.{Entry}
-use Rattle.script_model.specs.ScriptData.{ScriptData, starts}
-use Rattle.history.specs.Objects.{RunsAreLegal}
-use Rattle.history.specs.Run.{EachPlace, IsFirst, Legal}
-use Rattle.history.proofs.Bound.{bounded}
-use Rattle.history.proofs.Listed.{listed_may}
+use Rattle.service_rule.specs.Services.{ServiceRule}
+use Rattle.script_model.specs.ScriptData.{ScriptData}
+use Rattle.history_steps.proofs.Induction.{push_places}
+use Rattle.history_steps.specs.Run.{EachPlace, IsFirst}
+use Rattle.history_steps.specs.ScriptLimits.{IsWithinLimits}
+use Rattle.history_laws.proofs.Bound.{bounded}
+use Rattle.history_laws.proofs.Runs.{firsts_legal}
 
--- a relation between what stands before a place and what stands there, one place more
-pub push_places : {X : Type 0} (P : List X → X → Type 0) (h : List X) (y : X) → ((i : ℕ) (x : X) → slice_get h i ≡ Some x → P (take i h) x) → P h y → (i : ℕ) (x : X) → slice_get (h ++ y ∷ []) i ≡ Some x → P (take i (h ++ y ∷ [])) x
-push_places P [] y all last zero x at = let same : y ≡ x = cc in subst (P []) same last
-push_places P [] y all last (suc i) x at = absurd (cc)
-push_places P (z ∷ zs) y all last zero x at = all zero x at
-push_places P (z ∷ zs) y all last (suc i) x at = push_places (λ g w. P (z ∷ g) w) zs y (λ j w here. all (suc j) w here) last i x at
+pub firsts_more : (rule : ServiceRule) (s : ScriptData) (h g : List Entry) (e : Entry) → EachPlace (IsFirst rule s) h → IsFirst rule s h e → g ≡ h ++ e ∷ [] → EachPlace (IsFirst rule s) g
+firsts_more rule s h g e firsts first is = rw is (push_places (IsFirst rule s) h e firsts first)
 
-pub firsts_legal : (s : ScriptData) (h : List Entry) → EachPlace (IsFirst s) h → Legal s h
-firsts_legal s h firsts i e at = (listed_may s (take i h)).at 0 e (firsts i e at)
-
--- a run is legal
-pub runs_legal : (s : ScriptData) → RunsAreLegal s
-runs_legal s h run = firsts_legal s h run.firsts
-
-pub firsts_more : (s : ScriptData) (h g : List Entry) (e : Entry) → EachPlace (IsFirst s) h → IsFirst s h e → g ≡ h ++ e ∷ [] → EachPlace (IsFirst s) g
-firsts_more s h g e firsts first is = rw is (push_places (IsFirst s) h e firsts first)
-
-pub fewer : (s : ScriptData) (h g : List Entry) (e : Entry) → EachPlace (IsFirst s) g → g ≡ h ++ e ∷ [] → 3 * starts s - length g < 3 * starts s - length h
-fewer s h g e firsts is =
+pub fewer : (rule : ServiceRule) (s : ScriptData) → IsWithinLimits s → (h g : List Entry) (e : Entry) → EachPlace (IsFirst rule s) g → g ≡ h ++ e ∷ [] → 400000 - length g < 400000 - length h
+fewer rule s limits h g e firsts is =
     let longer : length g ≡ length h + 1 = rw is (length-append h (e ∷ [])) in
-    let most : length g ≤ 3 * starts s = bounded s g (firsts_legal s g firsts) in
+    let most : length g < 400000 = bounded rule s limits g (firsts_legal rule s g firsts) in
     omega arith
 
 pub none_first : {X : Type 0} (xs : List X) → None ≡ slice_get xs 0 → xs ≡ []
-none_first [] e = Rattle.std.proofs.Common.refl
+none_first [] e = refl
 none_first (x ∷ xs) e = absurd (cc)

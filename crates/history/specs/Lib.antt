@@ -1,5 +1,2 @@
-pub mod MayFollow
-pub mod Nexts
-pub mod Run
-pub mod Text
-pub mod Objects
+pub mod Kinds
+pub mod Parts

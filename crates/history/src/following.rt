@@ -1,123 +1,61 @@
-//! The one entry of an object that may follow.
+//! Whether an entry may follow a history.
 
-ghost use Rattle.std.specs.Prelude.{◌≡◌, ◌↔◌, ◌<◌, IfOk, IsTrue};
-ghost use Rattle.script_model.specs.ScriptData.{starts};
-ghost use Rattle.history_facts.specs.Orders.{order_view};
-ghost use Rattle.history.specs.MayFollow as following;
+ghost use Rattle.std.specs.Prelude.{◌≡◌, ◌↔◌, IfOk, IsTrue};
+ghost use Rattle.history_steps.specs.MayFollow as following;
 
-use crate::history::History;
-use history_facts::{
-    Ordered, choice, commit_origin, is_locked, is_pending, opened, order_of, url_of, was_answered,
-};
-use script_model::{
-    Entry, NoMemory, RawUrl, Reply, Script, UrlText, equal_entries, site_of_origin,
-};
+use crate::deliveries::{end_next, head_next, piece_next, request_hop};
+use crate::documents::{commit_next, local_next, said_next};
+use crate::navigations::{end_navigation_next, navigation_hop, order_next};
+use crate::processes::{crash_next, exit_next, open_next, warm_next};
+use history_entries::History;
+use plain_facts::PlainFacts;
+use script_model::{Entry, HopOf, NoMemory, Script, ServiceRule, equal_entries};
 use std::alloc::Global;
 
-#[tactic(auto, unfolding(crate::specs::MayFollow::open_next))]
-pub fn open_next(script: &Script, entries: &[Entry]) -> Option<Entry>
-    ensures { result ≡ following.open_next script.now entries.now }
-{
-    let opened = opened(entries);
-    if opened < script.start_count() {
-        Some(Entry::Opened(opened as u32))
-    } else {
-        None
-    }
-}
-
-#[tactic(auto, unfolding(crate::specs::MayFollow::order_to))]
-fn order_to(
+/// The entry of the same object that may follow.
+#[tactic(auto, unfolding(history_steps::specs::MayFollow::next_of))]
+fn next_of<R: ServiceRule>(
     alloc: Global,
-    script: &Script,
-    navigation: u32,
-    process: u32,
-) -> Result<Entry, NoMemory>
-    requires { navigation < starts script.now }
-    ensures { IfOk result (λ entry. entry ≡ following.order_to script.now navigation process) }
-{
-    let origin = commit_origin(alloc, script, navigation)?;
-    let site = site_of_origin(alloc, &script.rules, &origin)?;
-    let url = UrlText::of(alloc, url_of(script, navigation))?;
-    Ok(Entry::Order(navigation, process, site, origin, url))
-}
-
-#[tactic(auto, unfolding(crate::specs::MayFollow::order_next))]
-pub fn order_next(
-    alloc: Global,
-    script: &Script,
-    entries: &[Entry],
-    navigation: u32,
-) -> Result<Option<Entry>, NoMemory>
-    ensures { IfOk result (λ next. next ≡ following.order_next script.now entries.now navigation) }
-{
-    if !is_pending(script, entries, navigation) {
-        return Ok(None);
-    }
-    match choice(entries) {
-        Some(process) => Ok(Some(order_to(alloc, script, navigation, process)?)),
-        None => Ok(None),
-    }
-}
-
-#[tactic(auto, unfolding(crate::specs::MayFollow::commit_by))]
-fn commit_by(
-    alloc: Global,
-    entries: &[Entry],
-    navigation: u32,
-    order: Ordered<'_>,
-) -> Result<Option<Entry>, NoMemory>
-    ensures { IfOk result (λ next. next ≡ following.commit_by entries.now navigation (order_view order.entry)) }
-{
-    if !is_locked(entries, order.process) || was_answered(entries, navigation) {
-        return Ok(None);
-    }
-    let origin = order.origin.copy(alloc)?;
-    let url = RawUrl::of(alloc, order.url.as_str())?;
-    Ok(Some(Entry::Commit(order.process, navigation, origin, url, Reply::Ok)))
-}
-
-#[tactic(auto, unfolding(crate::specs::MayFollow::commit_next))]
-pub fn commit_next(
-    alloc: Global,
-    entries: &[Entry],
-    navigation: u32,
-) -> Result<Option<Entry>, NoMemory>
-    ensures { IfOk result (λ next. next ≡ following.commit_next entries.now navigation) }
-{
-    match order_of(entries, navigation) {
-        Some(order) => commit_by(alloc, entries, navigation, order),
-        None => Ok(None),
-    }
-}
-
-#[tactic(auto, unfolding(crate::specs::MayFollow::next_of))]
-fn next_of(
-    alloc: Global,
-    script: &Script,
-    entries: &[Entry],
+    services: &R,
+    facts: &PlainFacts<'_>,
     entry: &Entry,
 ) -> Result<Option<Entry>, NoMemory>
-    ensures { IfOk result (λ next. next ≡ following.next_of script.now entries.now entry.now) }
+    ensures { IfOk result (λ next. next ≡ following.next_of R.rule facts.now.script facts.now.entries entry.now) }
 {
     match entry {
-        Entry::Opened(_) => Ok(open_next(script, entries)),
-        Entry::Order(navigation, ..) => order_next(alloc, script, entries, *navigation),
-        Entry::Commit(_, navigation, ..) => commit_next(alloc, entries, *navigation),
-        _ => Ok(None),
+        Entry::Opened(_) => open_next(facts),
+        Entry::Warm(_) => warm_next(facts),
+        Entry::Hop(HopOf::Nav(navigation), _) => navigation_hop(
+            alloc,
+            facts,
+            u64::from(*navigation),
+        ),
+        Entry::Hop(HopOf::Req(request), _) => request_hop(alloc, facts, u64::from(*request)),
+        Entry::Order(navigation, ..) => order_next(alloc, facts, u64::from(*navigation)),
+        Entry::NavEnd(navigation, _) => end_navigation_next(alloc, facts, u64::from(*navigation)),
+        Entry::Said(_, document, ..) => said_next(alloc, services, facts, u64::from(*document)),
+        Entry::Crash(process) => crash_next(alloc, facts, u64::from(*process)),
+        Entry::Commit(_, navigation, ..) => commit_next(alloc, facts, u64::from(*navigation)),
+        Entry::Local(_, document, ..) => local_next(alloc, facts, u64::from(*document)),
+        Entry::Head(request, _) => head_next(alloc, facts, u64::from(*request)),
+        Entry::Piece(request, ..) => piece_next(alloc, facts, u64::from(*request)),
+        Entry::End(request, _) => end_next(alloc, facts, u64::from(*request)),
+        Entry::Exit(process) => exit_next(facts, u64::from(*process)),
     }
 }
 
 /// Whether an entry may follow a history.
-pub fn may(
+pub fn may<R: ServiceRule>(
     alloc: Global,
     script: &Script,
+    services: &R,
     history: &History,
     entry: &Entry,
 ) -> Result<bool, NoMemory>
-    ensures { IfOk result (λ answer. IsTrue answer ↔ following.MayFollow script.now history.now entry.now) }
+    ensures { IfOk result (λ answer. IsTrue answer ↔ following.MayFollow R.rule script.now history.now entry.now) }
 {
-    match next_of(alloc, script, history.entries(), entry)? {
+    let facts = PlainFacts::new(alloc, script, history.entries())?;
+    match next_of(alloc, services, &facts, entry)? {
         Some(next) => Ok(equal_entries(&next, entry)),
         None => Ok(false),
     }

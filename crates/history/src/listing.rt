@@ -1,13 +1,19 @@
 //! The entries that may follow, in order.
 
-ghost use Rattle.std.specs.Prelude.{◌≡◌, ◌++◌, ◌≤◌, ◌<◌, ◌^◌, IfOk, OnOk};
+ghost use Rattle.std.specs.Prelude.{◌≡◌, ◌++◌, IfOk, OnOk, filter_map};
+ghost use Rattle.std.specs.List.{range_with_len};
 ghost use Rattle.std.specs.Option.{option_to_list};
-ghost use Rattle.history.specs.Nexts as listing;
+ghost use Rattle.history.specs.Kinds.{next_by};
+ghost use Rattle.history.specs.Parts.{before_commits, behind_commits};
+ghost use Rattle.history_steps.specs.Nexts as listing;
 
-use crate::following::{commit_next, open_next, order_next};
-use crate::history::History;
-use history_facts::{had_order, started};
-use script_model::{Entry, NoMemory, Script};
+use crate::kinds::{Listed, next_by};
+use crate::processes::{open_next, warm_next};
+use history_entries::History;
+use plain_facts::PlainFacts;
+use plain_facts::processes::started;
+use plain_facts::requests::requests_made;
+use script_model::{Entry, NoMemory, Script, ServiceRule};
 use std::alloc::Global;
 
 fn push_some(found: &mut Vec<Entry>, next: Option<Entry>) -> Result<(), NoMemory>
@@ -19,79 +25,132 @@ fn push_some(found: &mut Vec<Entry>, next: Option<Entry>) -> Result<(), NoMemory
     Ok(())
 }
 
-#[tactic(auto, unfolding(crate::specs::Nexts::order_nexts))]
-fn push_orders(
+/// The entries of a list, of the objects with numbers below `count`.
+fn push_listed<R: ServiceRule>(
     alloc: Global,
-    script: &Script,
-    entries: &[Entry],
+    services: &R,
+    facts: &PlainFacts<'_>,
+    listed: Listed,
+    count: u64,
     found: &mut Vec<Entry>,
 ) -> Result<(), NoMemory>
-    ensures { OnOk result (found.new.items ≡ found.old.items ++ listing.order_nexts script.now entries.now) }
+    ensures { OnOk result (found.new.items ≡ found.old.items ++ filter_map (next_by R.rule facts.now.script facts.now.entries listed) (range_with_len 0 count)) }
 {
-    for navigation in 0..script.start_count() as u32 {
-        push_some(found, order_next(alloc, script, entries, navigation)?)?;
+    for number in 0..count {
+        push_some(found, next_by(alloc, services, facts, listed, number)?)?;
     }
     Ok(())
 }
 
-#[tactic(auto, unfolding(crate::specs::Nexts::commit_in_process))]
-fn commit_in_process(
+/// The commits of a process, by navigation.
+#[tactic(auto, unfolding(history_steps::specs::Nexts::process_commits))]
+fn push_commits_in<R: ServiceRule>(
     alloc: Global,
-    entries: &[Entry],
-    process: u32,
-    navigation: u32,
-) -> Result<Option<Entry>, NoMemory>
-    ensures { IfOk result (λ next. next ≡ listing.commit_in_process entries.now process navigation) }
-{
-    if !had_order(entries, process, navigation) {
-        return Ok(None);
-    }
-    commit_next(alloc, entries, navigation)
-}
-
-#[tactic(auto, unfolding(crate::specs::Nexts::process_commits))]
-fn push_process_commits(
-    alloc: Global,
-    script: &Script,
-    entries: &[Entry],
-    process: u32,
+    services: &R,
+    facts: &PlainFacts<'_>,
+    process: u64,
     found: &mut Vec<Entry>,
 ) -> Result<(), NoMemory>
-    ensures { OnOk result (found.new.items ≡ found.old.items ++ listing.process_commits script.now entries.now process) }
+    ensures { OnOk result (found.new.items ≡ found.old.items ++ listing.process_commits facts.now.script facts.now.entries process) }
 {
-    for navigation in 0..script.start_count() as u32 {
-        push_some(
-            found,
-            commit_in_process(alloc, entries, process, navigation)?,
-        )?;
+    let listed = Listed::CommitsIn(process);
+    push_listed(
+        alloc,
+        services,
+        facts,
+        listed,
+        facts.navigations_made(),
+        found,
+    )
+}
+
+/// The commits, by process and then by navigation.
+#[tactic(auto, unfolding(history_steps::specs::Nexts::commit_nexts))]
+fn push_commits<R: ServiceRule>(
+    alloc: Global,
+    services: &R,
+    facts: &PlainFacts<'_>,
+    found: &mut Vec<Entry>,
+) -> Result<(), NoMemory>
+    ensures { OnOk result (found.new.items ≡ found.old.items ++ listing.commit_nexts facts.now.script facts.now.entries) }
+{
+    for process in 0..started(facts.entries()) {
+        push_commits_in(alloc, services, facts, process, found)?;
     }
     Ok(())
 }
 
-#[tactic(auto, unfolding(crate::specs::Nexts::commit_nexts))]
-fn push_commits(
+/// What stands before the commits: what is opened, warmed, followed, ordered, ended, said, and the crashes.
+#[tactic(auto, unfolding(history_steps::specs::Nexts::hop_nexts, history_steps::specs::Nexts::order_nexts, history_steps::specs::Nexts::end_navigation_nexts, history_steps::specs::Nexts::said_nexts, history_steps::specs::Nexts::crash_nexts))]
+fn push_before_commits<R: ServiceRule>(
     alloc: Global,
-    script: &Script,
-    entries: &[Entry],
+    services: &R,
+    facts: &PlainFacts<'_>,
     found: &mut Vec<Entry>,
 ) -> Result<(), NoMemory>
-    ensures { OnOk result (found.new.items ≡ found.old.items ++ listing.commit_nexts script.now entries.now) }
+    ensures { OnOk result (found.new.items ≡ found.old.items ++ before_commits R.rule facts.now.script facts.now.entries) }
 {
-    for process in 0..started(entries) {
-        push_process_commits(alloc, script, entries, process as u32, found)?;
-    }
-    Ok(())
+    let navigations = facts.navigations_made();
+    let requests = requests_made(facts.entries());
+    let processes = started(facts.entries());
+    push_some(found, open_next(facts)?)?;
+    push_some(found, warm_next(facts)?)?;
+    push_listed(
+        alloc,
+        services,
+        facts,
+        Listed::NavigationHops,
+        navigations,
+        found,
+    )?;
+    push_listed(alloc, services, facts, Listed::RequestHops, requests, found)?;
+    push_listed(alloc, services, facts, Listed::Orders, navigations, found)?;
+    push_listed(
+        alloc,
+        services,
+        facts,
+        Listed::NavigationEnds,
+        navigations,
+        found,
+    )?;
+    push_listed(alloc, services, facts, Listed::Messages, navigations, found)?;
+    push_listed(alloc, services, facts, Listed::Crashes, processes, found)
+}
+
+/// What stands behind the commits: what documents do by themselves, what is delivered, and the exits.
+#[tactic(auto, unfolding(history_steps::specs::Nexts::local_nexts, history_steps::specs::Nexts::head_nexts, history_steps::specs::Nexts::piece_nexts, history_steps::specs::Nexts::end_nexts, history_steps::specs::Nexts::exit_nexts))]
+fn push_behind_commits<R: ServiceRule>(
+    alloc: Global,
+    services: &R,
+    facts: &PlainFacts<'_>,
+    found: &mut Vec<Entry>,
+) -> Result<(), NoMemory>
+    ensures { OnOk result (found.new.items ≡ found.old.items ++ behind_commits facts.now.script facts.now.entries) }
+{
+    let navigations = facts.navigations_made();
+    let requests = requests_made(facts.entries());
+    let processes = started(facts.entries());
+    push_listed(alloc, services, facts, Listed::Locals, navigations, found)?;
+    push_listed(alloc, services, facts, Listed::Heads, requests, found)?;
+    push_listed(alloc, services, facts, Listed::Pieces, requests, found)?;
+    push_listed(alloc, services, facts, Listed::Ends, requests, found)?;
+    push_listed(alloc, services, facts, Listed::Exits, processes, found)
 }
 
 /// The entries that may follow a history, in order: by kind, then by the number of the object.
-#[tactic(auto, unfolding(crate::specs::Nexts::nexts))]
-pub fn nexts(alloc: Global, script: &Script, history: &History) -> Result<Vec<Entry>, NoMemory>
-    ensures { IfOk result (λ found. found.items ≡ listing.nexts script.now history.now) }
+#[tactic(auto, unfolding(history_steps::specs::Nexts::nexts))]
+pub fn nexts<R: ServiceRule>(
+    alloc: Global,
+    script: &Script,
+    services: &R,
+    history: &History,
+) -> Result<Vec<Entry>, NoMemory>
+    ensures { IfOk result (λ found. found.items ≡ listing.nexts R.rule script.now history.now) }
 {
-    let entries = history.entries();
+    let facts = PlainFacts::new(alloc, script, history.entries())?;
     let mut found = Vec::new(alloc);
-    push_some(&mut found, open_next(script, entries))?;
-    push_orders(alloc, script, entries, &mut found)?;
-    push_commits(alloc, script, entries, &mut found)?;
+    push_before_commits(alloc, services, &facts, &mut found)?;
+    push_commits(alloc, services, &facts, &mut found)?;
+    push_behind_commits(alloc, services, &facts, &mut found)?;
     Ok(found)
 }

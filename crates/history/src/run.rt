@@ -1,18 +1,24 @@
 //! The run of one thread.
 
-ghost use Rattle.std.specs.Prelude.{◌≡◌, IfOk, slice_get};
-ghost use Rattle.history.specs.Nexts as listing;
-ghost use Rattle.history.specs.Run.{IsRun};
+ghost use Rattle.std.specs.Prelude.{◌≡◌, IfOk};
+ghost use Rattle.history_steps.specs.Run.{IsRun, first_next};
 
-use crate::history::History;
 use crate::listing::nexts;
-use script_model::{Entry, NoMemory, Script};
+use history_entries::History;
+use history_laws::script_is_within_limits;
+use script_model::{Entry, NoMemory, Script, ServiceRule};
 use std::alloc::Global;
 
-fn first_next(alloc: Global, script: &Script, history: &History) -> Result<Option<Entry>, NoMemory>
-    ensures { IfOk result (λ first. first ≡ slice_get (listing.nexts script.now history.now) 0) }
+/// The first entry that may follow a history.
+fn first_next<R: ServiceRule>(
+    alloc: Global,
+    script: &Script,
+    services: &R,
+    history: &History,
+) -> Result<Option<Entry>, NoMemory>
+    ensures { IfOk result (λ first. first ≡ first_next R.rule script.now history.now) }
 {
-    let mut found = nexts(alloc, script, history)?;
+    let mut found = nexts(alloc, script, services, history)?;
     if found.is_empty() {
         return Ok(None);
     }
@@ -20,12 +26,17 @@ fn first_next(alloc: Global, script: &Script, history: &History) -> Result<Optio
 }
 
 /// The run of one thread: it starts with nothing, and appends the first entry that may follow until there is none.
-pub fn run1(alloc: Global, script: &Script) -> Result<History, NoMemory>
-    ensures { IfOk result (λ history. IsRun script.now history) }
+pub fn run1<R: ServiceRule>(
+    alloc: Global,
+    script: &Script,
+    services: &R,
+) -> Result<History, NoMemory>
+    ensures { IfOk result (λ history. IsRun R.rule script.now history) }
 {
+    script_is_within_limits(script);
     let mut history = History::new(alloc);
     loop {
-        match first_next(alloc, script, &history)? {
+        match first_next(alloc, script, services, &history)? {
             Some(entry) => history.push(entry)?,
             None => return Ok(history),
         }

@@ -1,4 +1,3 @@
 pub mod RuleText
 pub mod Kinds
 pub mod CarriedRules
-pub mod Numbers

@@ -8,7 +8,6 @@
 mod body;
 mod entry;
 mod equal;
-mod number;
 mod piece;
 mod plain_text;
 mod policy;
@@ -19,7 +18,6 @@ mod text;
 pub use body::{Body, Message, Mode, Src, Target};
 pub use entry::{EndHow, Entry, EntryKind, HopOf, LocalWhat};
 pub use equal::equal_entries;
-pub use number::decimal_number;
 pub use piece::PieceBytes;
 pub use policy::Policy;
 pub use reply::Reply;

@@ -1,6 +1,4 @@
-mod values;
-
-use crate::{Rule, decimal_number};
+use crate::Rule;
 
 const CODES: &[(Rule, &str)] = &[
     (Rule::K1, "K1"),
@@ -54,34 +52,4 @@ fn rules_tell_their_codes(rt: HostRuntime) {
     for (rule, code) in CODES {
         assert_eq!(rt; rule.code(), *code);
     }
-}
-
-const NUMBERS: &[(&str, Option<u32>)] = &[
-    ("0", Some(0)),
-    ("7", Some(7)),
-    ("10", Some(10)),
-    ("4294967295", Some(4294967295)),
-    ("4294967296", None),
-    ("18446744073709551616", None),
-    ("", None),
-    ("00", None),
-    ("01", None),
-    ("-1", None),
-    ("-0", None),
-    ("+1", None),
-    (" 1", None),
-    ("1 ", None),
-    ("1a", None),
-    ("0x1", None),
-    ("1.0", None),
-    ("1_0", None),
-    ("\u{663}", None),
-];
-
-#[test]
-fn numbers_are_decimal(rt: HostRuntime) {
-    for (text, number) in NUMBERS {
-        assert!(rt; decimal_number(text.as_bytes()) == *number, "{text}");
-    }
-    assert!(rt; decimal_number(&[0xff]).is_none());
 }

@@ -36,24 +36,24 @@ use Rattle.history_entry.specs.declared.reply.Reply.{Reply}
 use Rattle.history_entry.specs.declared.reply.Reply.TheVariants.{Deny, Drop, Kill, Ok as Okay}
 use Rattle.history_entry.specs.declared.rule.Rule.{Rule}
 use Rattle.history_entry.specs.declared.rule.Rule.TheVariants.{A3, A4, A5, B1, B2, B3, B8, F1, G1, G2, G3, K1, K10, K2, K3, K4, K5, K6, K7, K8, K9, L1, L2, M2, N1, N3, N4, N5, N7, N9}
-use Rattle.script_model.specs.Entries.{OrderData}
-use Rattle.script_model.specs.Navigations.{had_order, order_of}
+use Rattle.history_rules.specs.Orders.{OrderData, had_order, order_of}
 use Rattle.script_model.specs.ResourceData.{fails_at_once, ResourceData}
 use Rattle.script_model.specs.ScriptData.{ScriptData}
 use Rattle.script_model.specs.Verdicts.{body_verdict, bytes_verdict, cors_verdict, head_verdict, is_left_out, is_protected_or_plain, is_same_site_chain, sniff_kind, sniffed_verdict, verdict}
 use Rattle.script_model.specs.declared.limits.TheConstants.{MAX_FRAMES, MAX_NAVIGATIONS, MAX_REQUESTS}
-use Rattle.script_model.specs.declared.service.ServiceAnswer.{ServiceAnswer}
-use Rattle.script_model.specs.declared.service.ServiceAnswer.TheVariants.{Refused, Said as Answered}
+use Rattle.service_rule.specs.declared.service.ServiceAnswer.{ServiceAnswer}
+use Rattle.service_rule.specs.declared.service.ServiceAnswer.TheVariants.{Refused, Said as Answered}
 use Rattle.script_model.specs.declared.verdict.Verdict.{Verdict}
 use Rattle.script_model.specs.declared.verdict.Verdict.TheVariants.{Allow, Block}
 use Rattle.history_rules.specs.Documents.{current_documents, document_in, hosted, is_current, is_present, may_navigate, origin_of}
 use Rattle.history_rules.specs.Frames.{frame_of, frames_made, is_child, is_sandboxed, navigations_made}
 use Rattle.history_rules.specs.Judgement.{ask_origin, compare_order, count_row, in_group, is_did_commit, is_own_origin, is_web_text, judge, judge_add_frame, judge_ask, judge_body, judge_commit, judge_fetch, judge_navigate, judge_open_page, judge_post, judge_receiver, judge_remove_frame, lock_admits, may_load, read_url_rows, reply_of_answer, src_rows, takes_origin, url_rows}
 use Rattle.history_rules.specs.Navigations.{is_waiting}
-use Rattle.history_rules.specs.Pieces.{has_ended}
+use Rattle.script_model.specs.Pieces.{has_ended}
 use Rattle.history_rules.specs.Redirects.{hop_url, is_redirect, is_spent, response}
 use Rattle.history_rules.specs.Requests.{cors_fails, request_chain, request_verdict, requests_made}
-use Rattle.history_rules.specs.Services.{ServiceRule, accepted_requests}
+use Rattle.history_rules.specs.Services.{accepted_requests}
+use Rattle.service_rule.specs.Services.{ServiceRule}
 use Rattle.history_steps.specs.Deliveries.{body_end, end_how, redirect_end, wire_end}
 use Rattle.history_laws.specs.PolicyLaw.{RefusesByServiceRules, is_rule_of, is_service_rule}
 

@@ -14,17 +14,18 @@ use Rattle.history_entry.specs.declared.rule.Rule.TheVariants.{N3, N5, N6, N7, N
 use Rattle.script_model.specs.ResourceData.{fails_at_once}
 use Rattle.script_model.specs.ScriptData.{ScriptData}
 use Rattle.script_model.specs.Verdicts.{verdict}
-use Rattle.script_model.specs.declared.service.Asked.{Asked}
-use Rattle.script_model.specs.declared.service.ServiceAnswer.{ServiceAnswer}
-use Rattle.script_model.specs.declared.service.ServiceAnswer.TheVariants.{Refused, Said as Answered}
+use Rattle.script_model.specs.declared.verdict.Verdict.{Verdict}
+use Rattle.service_rule.specs.declared.service.Asked.{Asked}
+use Rattle.service_rule.specs.declared.service.ServiceAnswer.{ServiceAnswer}
+use Rattle.service_rule.specs.declared.service.ServiceAnswer.TheVariants.{Refused, Said as Answered}
 use Rattle.history_rules.proofs.Apart.{and_both, from_cond, from_map}
 use Rattle.history_rules.specs.Navigations.{chain_of, is_pending}
-use Rattle.history_rules.specs.Pieces.{has_ended, seen_body}
+use Rattle.script_model.specs.Pieces.{has_ended, seen_body}
 use Rattle.history_rules.specs.Redirects.{has_no_content, is_redirect, is_spent, is_web, joined_url, response}
-use Rattle.history_rules.specs.Requests.{request_chain, request_mode, request_origin, request_verdict, response_verdict}
-use Rattle.history_rules.specs.Services.{ServiceRule}
-use Rattle.history_rules.specs.Store.{GetKey, RemoveKey, SetKey, StoreRequest, answer_request, answer_text, key_count, store_request, store_rule, value_of}
-use Rattle.history_rules.specs.declared.limits.TheConstants.{MAX_STORE_KEYS}
+use Rattle.history_rules.specs.Requests.{is_read_chain, request_chain, request_mode, request_origin, request_verdict, response_verdict}
+use Rattle.service_rule.specs.Services.{ServiceRule}
+use Rattle.service_rule.specs.Store.{GetKey, RemoveKey, SetKey, StoreRequest, answer_request, answer_text, key_count, store_request, store_rule, value_of}
+use Rattle.service_rule.specs.declared.limits.TheConstants.{MAX_STORE_KEYS}
 use Rattle.history_steps.proofs.Rows.{commit_row, end_row, head_row, said_row}
 use Rattle.history_steps.specs.MayFollow.{MayFollow, chosen_order, does_commit, end_navigation_next, end_rule as navigation_rule, next_of, redirect_rule, response_rule}
 use Rattle.history_laws.proofs.FineRules.{commit_fine, end_how_fine, fine, fine_how, fine_if, fine_reply, fine_verdict, first_verdict_fine, judge_fine}
@@ -53,6 +54,10 @@ module _ (s : ScriptData) where
       let e = fine_if (is_none (chosen_order s h n)) (Some N6) None refl refl in
       fine_if (does_commit s (chain_of s h n)) (if is_none (chosen_order s h n) then Some N6 else None) (response_rule s (chain_of s h n)) e (response_fine (chain_of s h n))
 
+asked_fine : (read : Bool) (v : Option Verdict) → fine_verdict v ≡ true → fine_verdict (if read then v else None) ≡ true
+asked_fine true v e = e
+asked_fine false v e = refl
+
 module _ (rule : ServiceRule) (s : ScriptData) (own : RefusesByServiceRules rule) (first : s.policy ≡ One) where
   request_verdict_fine : (h : List Entry) (r : ℕ) → fine_verdict (request_verdict s h r) ≡ true
   unfolding request_verdict response_verdict
@@ -62,8 +67,9 @@ module _ (rule : ServiceRule) (s : ScriptData) (own : RefusesByServiceRules rule
       by_origin None = refl
       by_origin (Some origin) =
           let x = response s (request_chain h r) in
-          ap (λ p. fine_verdict (verdict p s.rules origin (request_chain h r) (request_mode h r) x.head (seen_body x) (has_ended x))) first
-          ∙ first_verdict_fine s.rules origin (request_chain h r) (request_mode h r) x.head (seen_body x) (has_ended x)
+          asked_fine (is_read_chain (request_chain h r)) (verdict s.policy s.rules origin (request_chain h r) (request_mode h r) x.head (seen_body x) (has_ended x))
+          (ap (λ p. fine_verdict (verdict p s.rules origin (request_chain h r) (request_mode h r) x.head (seen_body x) (has_ended x))) first
+          ∙ first_verdict_fine s.rules origin (request_chain h r) (request_mode h r) x.head (seen_body x) (has_ended x))
 
   -- an entry that may follow does not carry B8
   step : (h : List Entry) (e : Entry) → MayFollow rule s h e → carries_rule_of One e ≡ true

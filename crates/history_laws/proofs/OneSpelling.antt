@@ -7,7 +7,7 @@ use Rattle.history_entry.specs.declared.entry.Entry.TheVariants.{Commit, Hop, Lo
 use Rattle.history_entry.specs.declared.entry.HopOf.TheVariants.{Nav, Req}
 use Rattle.entry_text.specs.Lines.{line_of}
 use Rattle.script_model.specs.ScriptData.{ScriptData}
-use Rattle.history_rules.specs.Services.{ServiceRule}
+use Rattle.service_rule.specs.Services.{ServiceRule}
 use Rattle.history_steps.proofs.Induction.{legal_take}
 use Rattle.history_steps.proofs.OneEach.{at_most_one}
 use Rattle.history_steps.proofs.Rows.{commit_row, local_row, said_row}
@@ -15,7 +15,7 @@ use Rattle.history_steps.specs.MayFollow.{MayFollow}
 use Rattle.history_steps.specs.Objects.{HasOneSpelling}
 use Rattle.history_steps.specs.Run.{Legal}
 use Rattle.history_steps.specs.ScriptLimits.{IsWithinLimits}
-use Rattle.history_steps.specs.Text.{head_of, lines_of, text_of}
+use Rattle.history_entries.specs.Text.{head_of, lines_of, text_of}
 use Rattle.history_laws.proofs.Bound.{locked_few, numbers_few}
 use Rattle.history_laws.proofs.EntryKinds.{number_of}
 use Rattle.history_laws.proofs.LineObjects.{AreSmall, object_same, shown_first, tag, tag_is, text_tag}

@@ -9,9 +9,9 @@ use Rattle.history_entry.specs.declared.policy.Policy.TheVariants.{One, Two}
 use Rattle.history_entry.specs.declared.rule.Rule.{Rule}
 use Rattle.history_entry.specs.declared.rule.Rule.TheVariants.{B8, S1, S2, S3, S4}
 use Rattle.script_model.specs.ScriptData.{ScriptData}
-use Rattle.script_model.specs.declared.service.Asked.{Asked}
-use Rattle.script_model.specs.declared.service.ServiceAnswer.TheVariants.{Refused}
-use Rattle.history_rules.specs.Services.{ServiceRule}
+use Rattle.service_rule.specs.declared.service.Asked.{Asked}
+use Rattle.service_rule.specs.declared.service.ServiceAnswer.TheVariants.{Refused}
+use Rattle.service_rule.specs.Services.{ServiceRule}
 use Rattle.history_steps.specs.Run.{Legal}
 
 -- the rule is one of the policy

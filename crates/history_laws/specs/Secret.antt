@@ -14,17 +14,17 @@ use Rattle.history_entry.specs.declared.entry.Entry.{Entry}
 use Rattle.history_entry.specs.declared.entry.Entry.TheVariants.{Piece}
 use Rattle.history_entry.specs.declared.policy.Policy.{Policy}
 use Rattle.history_entry.specs.declared.policy.Policy.TheVariants.{One, Two}
-use Rattle.script_model.specs.Entries.{lock_in}
+use Rattle.history_rules.specs.Orders.{lock_in}
 use Rattle.script_model.specs.ResourceData.{ResourceData}
 use Rattle.script_model.specs.ScriptData.{ScriptData, find_resource}
 use Rattle.script_model.specs.Verdicts.{body_verdict}
 use Rattle.script_model.specs.declared.verdict.Verdict.{Verdict}
 use Rattle.script_model.specs.declared.verdict.Verdict.TheVariants.{Allow, Block}
-use Rattle.history_rules.specs.Pieces.{has_ended, pieces, seen_body}
+use Rattle.script_model.specs.Pieces.{has_ended, pieces, seen_body}
 use Rattle.history_rules.specs.Redirects.{is_web, last_url}
 use Rattle.history_rules.specs.Requests.{request_chain}
 use Rattle.history_rules.specs.Responses.{resource_at}
-use Rattle.history_rules.specs.Services.{ServiceRule}
+use Rattle.service_rule.specs.Services.{ServiceRule}
 use Rattle.history_steps.specs.Run.{Legal}
 use Rattle.history_laws.specs.Received.{received}
 

@@ -13,12 +13,12 @@ use Rattle.script_model.specs.ScriptData.{ScriptData}
 use Rattle.script_model.specs.declared.action.Action.{Action}
 use Rattle.script_model.specs.declared.action.Action.TheVariants.{Raw as DoRaw}
 use Rattle.script_model.specs.declared.action.RawBody.{RawBody}
-use Rattle.history_rules.specs.Services.{ServiceRule}
-use Rattle.history_rules.specs.Store.{store_rule}
+use Rattle.service_rule.specs.Services.{ServiceRule}
+use Rattle.service_rule.specs.Store.{store_rule}
 use Rattle.history_steps.specs.MayFollow.{next_of}
 use Rattle.history_steps.specs.Nexts.{nexts}
 use Rattle.history_steps.specs.Run.{first_next}
-use Rattle.history_steps.specs.Text.{lines_of, text_of}
+use Rattle.history_entries.specs.Text.{lines_of, text_of}
 use Rattle.history_laws.specs.Received.{Given, Item, Replied, Taken}
 
 -- the one-thread run for at most n more entries

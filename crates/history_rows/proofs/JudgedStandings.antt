@@ -12,7 +12,7 @@ use Rattle.history_entry.specs.declared.entry.Entry.{Entry}
 use Rattle.entry_text.specs.Lines.{reply_text}
 use Rattle.script_model.specs.ScriptData.{ScriptData}
 use Rattle.history_rules.specs.Judgement.{judge}
-use Rattle.history_rules.specs.Store.{store_rule}
+use Rattle.service_rule.specs.Store.{store_rule}
 use Rattle.history_rows.proofs.Computing.{https, run_of}
 use Rattle.history_rows.proofs.OnLiterals.{history_on_literals}
 use Rattle.history_rows.proofs.OneStartPage.{one_page, spare_page}

@@ -2,10 +2,10 @@
 use Rattle.std.proofs.Common.{refl}
 use Rattle.std.specs.Prelude.{◌≡◌, ◌∷◌, [], codes, take, true}
 use Rattle.history_entry.specs.declared.entry.Entry.TheVariants.{Piece}
-use Rattle.history_rules.specs.Store.{store_rule}
+use Rattle.service_rule.specs.Store.{store_rule}
 use Rattle.history_steps.specs.MayFollow.{next_of}
 use Rattle.history_steps.specs.Nexts.{nexts}
-use Rattle.history_steps.specs.Text.{lines_of}
+use Rattle.history_entries.specs.Text.{lines_of}
 use Rattle.history_rows.proofs.Computing.{all_follow, lines_text, option_text, run_of}
 use Rattle.history_rows.proofs.OnLiterals.{history_on_literals}
 use Rattle.history_rows.proofs.OpenedPages.{grandchild}

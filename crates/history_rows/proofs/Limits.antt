@@ -2,7 +2,7 @@
 use Rattle.history_rows.proofs.OnLiterals.{history_on_literals}
 use Rattle.std.proofs.Common.{refl}
 use Rattle.std.specs.List.{range_with_len}
-use Rattle.std.specs.Prelude.{◌≡◌, ◌+◌, ◌/◌, ◌%◌, ◌++◌, ◌∷◌, [], List, None, Some, codes, map, nat_le, replicate, true, ℕ}
+use Rattle.std.specs.Prelude.{◌≡◌, ◌+◌, ◌/◌, ◌%◌, ◌++◌, ◌∷◌, [], List, None, Some, codes, map, replicate, ℕ}
 use Rattle.history_rows.proofs.Computing.{https, plain_script}
 use Rattle.entry_text.specs.Lines.{reply_text}
 use Rattle.page_origin.specs.declared.origin.Origin.{Origin}
@@ -13,7 +13,7 @@ use Rattle.history_rules.specs.Choice.{choice}
 use Rattle.history_rules.specs.Judgement.{count_row, judge_add_frame, judge_fetch, reply_of_answer}
 use Rattle.history_rules.specs.Processes.{started}
 use Rattle.script_model.specs.ScriptData.{ScriptData}
-use Rattle.history_rules.specs.Store.{RemoveKey, SetKey, StoreRequest, answer_request}
+use Rattle.service_rule.specs.Store.{RemoveKey, SetKey, StoreRequest, answer_request}
 use Rattle.history_entry.specs.declared.body.Body.{Body}
 use Rattle.history_entry.specs.declared.body.Body.TheVariants.{Fetch, Navigate}
 use Rattle.history_entry.specs.declared.entry.Entry.{Entry}
@@ -23,7 +23,7 @@ use Rattle.history_entry.specs.declared.reply.Reply.TheVariants.{Ok as Okay}
 use Rattle.history_entry.specs.declared.rule.Rule.TheVariants.{N6}
 use Rattle.history_steps.specs.MayFollow.{end_rule}
 use Rattle.history_entry.specs.declared.body.Src.TheVariants.{Doc as FromDoc}
-use Rattle.script_model.specs.declared.service.ServiceAnswer.{ServiceAnswer}
+use Rattle.service_rule.specs.declared.service.ServiceAnswer.{ServiceAnswer}
 
 abbrev pub pages : ℕ → ScriptData
 pages n = plain_script (replicate n (codes "https://a.com/")) []

@@ -7,7 +7,7 @@ use Rattle.history_entry.specs.declared.rule.Rule.TheVariants.{A4, A5}
 use Rattle.script_model.specs.ScriptData.{ScriptData}
 use Rattle.script_model.specs.declared.action.Action.TheVariants.{Fetch as DoFetch}
 use Rattle.script_model.specs.declared.verdict.Verdict.TheVariants.{Allow}
-use Rattle.history_steps.specs.Text.{lines_of}
+use Rattle.history_entries.specs.Text.{lines_of}
 use Rattle.history_laws.specs.Received.{received}
 use Rattle.history_laws.specs.Secret.{Secret, own_verdict, swap_body, was_never_of, with_body, with_own_body}
 use Rattle.history_rows.proofs.Computing.{all_follow, items_text, lines_text, page_with, plain_script, run_of}

@@ -5,7 +5,7 @@ use Rattle.std.specs.List.{list_any}
 use Rattle.std.specs.Option.{option_or}
 use Rattle.page_origin.specs.declared.site.Site.{Site}
 use Rattle.history_entry.specs.declared.entry.Entry.{Entry}
-use Rattle.script_model.specs.Navigations.{had_order}
+use Rattle.history_rules.specs.Orders.{had_order}
 use Rattle.script_model.specs.ScriptData.{ScriptData}
 use Rattle.script_model.specs.declared.limits.TheConstants.{MAX_LIVE_PROCESSES, MAX_STARTED_PROCESSES}
 use Rattle.history_rules.specs.Documents.{documents, is_current_in}

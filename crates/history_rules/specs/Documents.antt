@@ -7,10 +7,9 @@ use Rattle.std.specs.List.{list_all, list_any, range_with_len}
 use Rattle.std.specs.Option.{option_map_or}
 use Rattle.page_origin.specs.declared.origin.Origin.{Origin}
 use Rattle.history_entry.specs.declared.entry.Entry.{Entry}
-use Rattle.script_model.specs.Entries.{last_match}
-use Rattle.script_model.specs.Navigations.{order_of}
+use Rattle.history_rules.specs.Orders.{order_of}
 use Rattle.script_model.specs.ScriptData.{ScriptData}
-use Rattle.history_rules.specs.Entries.{CommitData, commit_in, hosts, is_done_by, removes}
+use Rattle.history_rules.specs.Entries.{CommitData, commit_in, hosts, is_done_by, last_match, removes}
 use Rattle.history_rules.specs.Frames.{adder_of, frame_of, is_descendant, is_sandboxed, lineage, navigations_made, opener_of, top_of, was_made}
 use Rattle.history_rules.specs.Processes.{is_dead}
 

@@ -1,15 +1,30 @@
 -- What one entry of a history says, of any kind: which message was accepted, what it makes and removes, what is committed, what
--- ends. Own rules. Words of a single kind that more programs ask stand in `script_model`.
-use Rattle.std.specs.Prelude.{◌==◌, ◌&&◌, if◌then◌else◌, Bool, List, None, Option, Some, false, true, ℕ}
-use Rattle.std.specs.Option.{option_map_or}
+-- ends. Own rules. What orders and their answers say stands in `Orders`.
+use Rattle.std.specs.Prelude.{◌==◌, ◌&&◌, ◌∷◌, [], if◌then◌else◌, Bool, List, None, Option, Some, false, true, ℕ}
+use Rattle.std.specs.Option.{option_map_or, option_or}
 use Rattle.page_origin.specs.declared.origin.Origin.{Origin}
 use Rattle.history_entry.specs.declared.body.Body.{Body}
 use Rattle.history_entry.specs.declared.body.Body.TheVariants.{AddFrame, DidCommit, Fetch, Navigate, OpenPage, RemoveFrame}
 use Rattle.history_entry.specs.declared.body.Message.{Message}
 use Rattle.history_entry.specs.declared.entry.Entry.{Entry}
-use Rattle.history_entry.specs.declared.entry.Entry.TheVariants.{Commit, Crash, Exit, Local, NavEnd, Order, Said}
+use Rattle.history_entry.specs.declared.entry.Entry.TheVariants.{Commit, Crash, Exit, Local, NavEnd, Opened, Order, Said}
 use Rattle.history_entry.specs.declared.reply.Reply.{Reply}
 use Rattle.history_entry.specs.declared.reply.Reply.TheVariants.{Answer, Deny, Drop, Kill, Ok as Okay}
+
+-- the last thing that f gives
+abbrev pub last_match : {A : Type 0} → (Entry → Option A) → List Entry → Option A
+last_match f [] = None
+last_match f (e ∷ h) = option_or (last_match f h) (f e)
+
+-- a start page is opened
+abbrev pub is_opened : Entry → Bool
+is_opened (Opened k) = true
+is_opened _ = false
+
+-- start page k is opened
+abbrev pub opens : ℕ → Entry → Bool
+opens k (Opened j) = j == k
+opens k _ = false
 
 -- the reply is ok
 abbrev pub is_okay : Reply → Bool

@@ -9,9 +9,8 @@ use Rattle.history_entry.specs.declared.body.Body.{Body}
 use Rattle.history_entry.specs.declared.body.Body.TheVariants.{AddFrame, Navigate, OpenPage}
 use Rattle.history_entry.specs.declared.body.Message.{Message}
 use Rattle.history_entry.specs.declared.entry.Entry.{Entry}
-use Rattle.script_model.specs.Entries.{opens}
 use Rattle.script_model.specs.ScriptData.{ScriptData, starts}
-use Rattle.history_rules.specs.Entries.{accepted, makes_frame, makes_navigation}
+use Rattle.history_rules.specs.Entries.{accepted, makes_frame, makes_navigation, opens}
 
 -- how many frames were made; the start frames count from the beginning
 abbrev pub frames_made : ScriptData → List Entry → ℕ

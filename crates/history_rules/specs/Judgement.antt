@@ -25,19 +25,19 @@ use Rattle.history_entry.specs.declared.entry.Entry.{Entry}
 use Rattle.history_entry.specs.declared.reply.Reply.{Reply}
 use Rattle.history_entry.specs.declared.reply.Reply.TheVariants.{Answer, Deny, Drop, Kill, Ok as Okay}
 use Rattle.history_entry.specs.declared.rule.Rule.TheVariants.{F1, G1, G2, G3, K1, K10, K2, K3, K4, K5, K6, K7, K8, K9, L1, L2, M1, M2, N1, N2, N3, N4, N9, S1}
-use Rattle.script_model.specs.Entries.{OrderData}
-use Rattle.script_model.specs.Navigations.{order_of, had_order}
+use Rattle.history_rules.specs.Orders.{OrderData, had_order, order_of}
 use Rattle.script_model.specs.ScriptData.{ScriptData}
 use Rattle.script_model.specs.declared.limits.TheConstants.{MAX_FRAMES, MAX_NAVIGATIONS, MAX_REQUESTS}
-use Rattle.script_model.specs.declared.service.ServiceAnswer.{ServiceAnswer}
-use Rattle.script_model.specs.declared.service.ServiceAnswer.TheVariants.{Said as Answered, Refused}
+use Rattle.service_rule.specs.declared.service.ServiceAnswer.{ServiceAnswer}
+use Rattle.service_rule.specs.declared.service.ServiceAnswer.TheVariants.{Said as Answered, Refused}
 use Rattle.history_rules.specs.Documents.{current_documents, document_in, hosted, is_current, is_present, may_navigate, origin_of}
 use Rattle.history_rules.specs.Frames.{frame_of, frames_made, is_child, is_sandboxed, navigations_made, share_group}
 use Rattle.history_rules.specs.Navigations.{is_waiting}
 use Rattle.history_rules.specs.Processes.{lock_of}
 use Rattle.history_rules.specs.Redirects.{is_web}
 use Rattle.history_rules.specs.Requests.{requests_made}
-use Rattle.history_rules.specs.Services.{ServiceRule, accepted_requests}
+use Rattle.history_rules.specs.Services.{accepted_requests}
+use Rattle.service_rule.specs.Services.{ServiceRule}
 
 -- the classes to which a frame or a page may be navigated
 abbrev pub may_load : UrlClass → Bool

@@ -20,11 +20,10 @@ use Rattle.history_entry.specs.declared.body.Src.TheVariants.{Doc as FromDoc, Ur
 use Rattle.history_entry.specs.declared.entry.Entry.{Entry}
 use Rattle.history_entry.specs.declared.entry.Entry.TheVariants.{Hop}
 use Rattle.history_entry.specs.declared.entry.HopOf.TheVariants.{Nav}
-use Rattle.script_model.specs.Entries.{opens}
-use Rattle.script_model.specs.Navigations.{order_of, was_ordered}
+use Rattle.history_rules.specs.Orders.{order_of, was_ordered}
 use Rattle.script_model.specs.ScriptData.{ScriptData, starts}
 use Rattle.history_rules.specs.Documents.{documents, is_present, origin_of}
-use Rattle.history_rules.specs.Entries.{commits, ends_navigation}
+use Rattle.history_rules.specs.Entries.{commits, ends_navigation, opens}
 use Rattle.history_rules.specs.Frames.{adder_of, frame_of, is_sandboxed, navigation_maker, navigations_made}
 use Rattle.history_rules.specs.Processes.{is_dead}
 use Rattle.history_rules.specs.Redirects.{last_url}

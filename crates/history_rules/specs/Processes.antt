@@ -8,8 +8,8 @@ use Rattle.page_origin.specs.declared.site.Site.{Site}
 use Rattle.history_entry.specs.declared.entry.Entry.{Entry}
 use Rattle.history_entry.specs.declared.entry.Entry.TheVariants.{Order}
 use Rattle.history_entry.specs.declared.entry.Entry.TheVariants as entries
-use Rattle.script_model.specs.Entries.{last_match, lock_in}
-use Rattle.history_rules.specs.Entries.{ends_process}
+use Rattle.history_rules.specs.Orders.{lock_in}
+use Rattle.history_rules.specs.Entries.{ends_process, last_match}
 
 -- what a process is: not started, started and not locked, locked to a site, or dead
 pub data Stage : Type 0 where

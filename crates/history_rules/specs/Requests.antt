@@ -1,8 +1,10 @@
 -- Requests of documents: their URLs, their responses, and how far these were delivered. Own rules, after the requests of the Fetch
 -- Standard in the modes cors and no-cors. They are numbered from 0 in the order of the accepted Fetch messages.
-use Rattle.std.specs.Prelude.{◌==◌, ◌&&◌, ◌∷◌, [], if◌then◌else◌, Bool, List, None, Option, Some, count_by, false, filter, filter_map, is_some, not, option_and_then, option_map, slice_get, ℕ}
-use Rattle.std.specs.List.{list_any, range_with_len}
+use Rattle.std.specs.Prelude.{◌==◌, ◌&&◌, ◌∷◌, [], if◌then◌else◌, Bool, List, None, Option, Some, bytes_eq, count_by, false, filter, filter_map, is_some, not, option_and_then, option_map, slice_get, ℕ}
+use Rattle.std.specs.List.{list_all, list_any, range_with_len}
 use Rattle.std.specs.Option.{option_map_or}
+use Rattle.std.specs.Result.{result_ok}
+use Rattle.page_origin.specs.PageUrls.{page_url_of}
 use Rattle.page_origin.specs.declared.origin.Origin.{Origin}
 use Rattle.cors_check.specs.Cors.{cors}
 use Rattle.history_entry.specs.declared.body.Body.{Body}
@@ -14,16 +16,15 @@ use Rattle.history_entry.specs.declared.entry.Entry.{Entry}
 use Rattle.history_entry.specs.declared.entry.Entry.TheVariants.{End, Head, Hop, Piece}
 use Rattle.history_entry.specs.declared.entry.HopOf.TheVariants.{Req}
 use Rattle.history_entry.specs.declared.rule.Rule.{Rule}
-use Rattle.script_model.specs.Entries.{last_match}
 use Rattle.script_model.specs.ResourceData.{ResourceData}
 use Rattle.script_model.specs.ScriptData.{ScriptData}
 use Rattle.script_model.specs.Verdicts.{is_cors, is_failed, verdict}
 use Rattle.script_model.specs.declared.verdict.Verdict.{Verdict}
 use Rattle.history_rules.specs.Documents.{is_current, origin_of}
-use Rattle.history_rules.specs.Entries.{accepted, makes_request}
+use Rattle.history_rules.specs.Entries.{accepted, last_match, makes_request}
 use Rattle.history_rules.specs.Navigations.{url_of_text}
-use Rattle.history_rules.specs.Pieces.{has_ended, seen_body}
-use Rattle.history_rules.specs.Redirects.{response}
+use Rattle.script_model.specs.Pieces.{has_ended, seen_body}
+use Rattle.history_rules.specs.Redirects.{is_web, response}
 
 -- how many requests began
 abbrev pub requests_made : List Entry → ℕ
@@ -112,15 +113,25 @@ is_request_of s h d r = is_live_request s h r && option_map_or (λ document. doc
 unfoldable pub has_live_request : ScriptData → List Entry → ℕ → Bool
 has_live_request s h d = list_any (is_request_of s h d) (requests h)
 
--- in mode cors: the CORS check of the chain so far fails
+-- the URL names itself: it is that of a page of class Web as it was read
+abbrev pub is_read_web : List ℕ → Bool
+is_read_web url = option_map_or (λ u. bytes_eq u url && is_web u) (result_ok (page_url_of url)) false
+
+-- each URL of a chain is so. In a legal history of a script every chain of a request is
+unfoldable pub is_read_chain : List (List ℕ) → Bool
+is_read_chain chain = list_all is_read_web chain
+
+-- in mode cors: the CORS check of the chain so far fails. It is made of URLs of class Web as they were read
 unfoldable pub cors_fails : ScriptData → List Entry → ℕ → Bool
-cors_fails s h r = is_cors (request_mode h r) && option_map_or
+cors_fails s h r = is_cors (request_mode h r) && is_read_chain (request_chain h r) && option_map_or
     (λ origin. is_failed (cors origin (request_chain h r) (response s (request_chain h r)).head.fields))
     (request_origin h r) false
 
--- the verdict, by the script's policy, on all that a response's wire carries. No other word calls `verdict`
+-- the verdict, by the script's policy, on all that a response's wire carries; of URLs of class Web as they were read. No other
+-- word calls `verdict`
 unfoldable pub response_verdict : ScriptData → Origin → List (List ℕ) → Mode → ResourceData → Option Verdict
-response_verdict s origin chain mode r = verdict s.policy s.rules origin chain mode r.head (seen_body r) (has_ended r)
+response_verdict s origin chain mode r =
+    if is_read_chain chain then verdict s.policy s.rules origin chain mode r.head (seen_body r) (has_ended r) else None
 
 -- the verdict on the response of a request
 unfoldable pub request_verdict : ScriptData → List Entry → ℕ → Option Verdict

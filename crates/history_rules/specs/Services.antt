@@ -1,5 +1,4 @@
--- The requests that a service accepted of a tuple origin, and the rule by which it answers. Own rules, after what Chromium keeps for
--- each origin by itself.
+-- The requests that a service accepted of a tuple origin. Own rules, after what Chromium keeps for each origin by itself.
 use Rattle.std.specs.Prelude.{◌&&◌, if◌then◌else◌, Bool, List, None, Option, Some, bytes_eq, false, filter_map, true, ℕ}
 use Rattle.page_origin.specs.Origins.{equal_tuples}
 use Rattle.page_origin.specs.declared.origin.Origin.{Origin}
@@ -11,12 +10,7 @@ use Rattle.history_entry.specs.declared.entry.Entry.{Entry}
 use Rattle.history_entry.specs.declared.entry.Entry.TheVariants.{Said}
 use Rattle.history_entry.specs.declared.reply.Reply.{Reply}
 use Rattle.history_entry.specs.declared.reply.Reply.TheVariants.{Answer, Deny, Drop, Kill, Ok as Okay}
-use Rattle.script_model.specs.declared.service.Asked.{Asked}
-use Rattle.script_model.specs.declared.service.ServiceAnswer.{ServiceAnswer}
-
--- what a service answers: to its name, the origin's earlier requests, the current documents and the request
-abbrev pub ServiceRule : Type 0
-ServiceRule = List ℕ → List Asked → List ℕ → List ℕ → ServiceAnswer
+use Rattle.service_rule.specs.declared.service.Asked.{Asked}
 
 -- the origin is this tuple
 abbrev pub is_origin : TupleOrigin → Origin → Bool

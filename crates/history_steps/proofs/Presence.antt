@@ -11,17 +11,17 @@ use Rattle.history_entry.specs.declared.body.Message.{Message}
 use Rattle.history_entry.specs.declared.entry.Entry.{Entry}
 use Rattle.history_entry.specs.declared.entry.Entry.TheVariants.{Said}
 use Rattle.history_entry.specs.declared.reply.Reply.TheVariants.{Ok as Okay}
-use Rattle.script_model.specs.Entries.{OrderData, last_match}
+use Rattle.history_rules.specs.Orders.{OrderData}
 use Rattle.script_model.specs.ScriptData.{ScriptData, starts}
 use Rattle.history_rules.proofs.Apart.{and_both, and_left, and_right, any_found, any_here, from_cond, from_map_or, from_or, from_then, not_true, true_or_false, from_else}
 use Rattle.history_rules.proofs.Growth.{any_kept, match_push, of_take, get_kept}
 use Rattle.history_rules.specs.Documents.{commit_at, hosted, is_current, is_kept, is_last_living, is_present, last_in, living, was_removed}
-use Rattle.history_rules.specs.Entries.{CommitData, accepted, commit_in, commits, hosts, is_okay, makes_frame, removes, ends_process}
+use Rattle.history_rules.specs.Entries.{CommitData, accepted, commit_in, commits, ends_process, hosts, is_okay, last_match, makes_frame, removes}
 use Rattle.history_rules.specs.Frames.{adder_in, adder_of, body_adds, frame_maker, frame_of, frames_made, lineage, lineage_within, navigations_made, parent_of, was_made}
 use Rattle.history_rules.specs.Judgement.{is_did_commit}
 use Rattle.history_rules.specs.Navigations.{began, is_committed, is_newest, is_pending}
 use Rattle.history_rules.specs.Processes.{is_dead, is_locked}
-use Rattle.history_rules.specs.Services.{ServiceRule}
+use Rattle.service_rule.specs.Services.{ServiceRule}
 use Rattle.history_steps.proofs.Commits.{IsAccepted, accepted_message, commit_of, commits_from, hosts_from, hosts_to, okay_is, waiting_uncommitted}
 use Rattle.history_steps.proofs.Current.{commit_at_form, current_found, living_last}
 use Rattle.history_steps.proofs.Frames.{adder_of_kept, began_below, began_kept, frame_of_kept, frames_more, made_below, navigations_more}

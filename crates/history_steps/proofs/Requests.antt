@@ -18,8 +18,7 @@ use Rattle.history_entry.specs.declared.entry.Entry.{Entry}
 use Rattle.history_entry.specs.declared.entry.Entry.TheVariants.{End, Head, Hop, Piece}
 use Rattle.history_entry.specs.declared.entry.HopOf.TheVariants.{Req}
 use Rattle.history_entry.specs.declared.rule.Rule.{Rule}
-use Rattle.script_model.specs.Entries.{OrderData}
-use Rattle.script_model.specs.Navigations.{order_of}
+use Rattle.history_rules.specs.Orders.{OrderData, order_of}
 use Rattle.script_model.specs.ResourceData.{fails_at_once}
 use Rattle.script_model.specs.ScriptData.{ScriptData}
 use Rattle.script_model.specs.Verdicts.{is_cors, is_failed}
@@ -30,10 +29,10 @@ use Rattle.history_rules.proofs.Growth.{count_more, count_still, filter_map_stil
 use Rattle.history_rules.specs.Documents.{hosted, is_current, origin_of}
 use Rattle.history_rules.specs.Entries.{accepted, hosts, makes_request, body_makes_request}
 use Rattle.history_rules.specs.Judgement.{is_did_commit}
-use Rattle.history_rules.specs.Pieces.{pieces}
+use Rattle.script_model.specs.Pieces.{pieces}
 use Rattle.history_rules.specs.Redirects.{is_redirect, response}
-use Rattle.history_rules.specs.Requests.{cors_fails, delivered, fetched_mode, fetched_url, has_end, has_head, head_in, head_of, hop_of_request, is_end_of, is_live_request, is_piece_of, request_chain, request_document, request_maker, request_mode, request_origin, request_verdict, requests_made, response_verdict}
-use Rattle.history_rules.specs.Services.{ServiceRule}
+use Rattle.history_rules.specs.Requests.{cors_fails, delivered, fetched_mode, fetched_url, has_end, has_head, head_in, head_of, hop_of_request, is_end_of, is_live_request, is_piece_of, is_read_chain, request_chain, request_document, request_maker, request_mode, request_origin, request_verdict, requests_made, response_verdict}
+use Rattle.service_rule.specs.Services.{ServiceRule}
 use Rattle.history_steps.proofs.Commits.{commit_of, hosts_to}
 use Rattle.history_steps.proofs.Induction.{legal_ind, legal_more}
 use Rattle.history_steps.proofs.Orders.{had_order_found, order_entry, order_is, order_of_found}
@@ -79,7 +78,7 @@ abbrev pub verdict_by : ScriptData → Option Origin → List (List ℕ) → Mod
 verdict_by s origin chain mode = option_and_then (λ o. response_verdict s o chain mode (response s chain)) origin
 
 abbrev pub cors_by : ScriptData → Option Origin → List (List ℕ) → Mode → Bool
-cors_by s origin chain mode = is_cors mode && option_map_or (λ o. is_failed (cors o chain (response s chain).head.fields)) origin false
+cors_by s origin chain mode = is_cors mode && is_read_chain chain && option_map_or (λ o. is_failed (cors o chain (response s chain).head.fields)) origin false
 
 -- the same request in two histories
 pub record IsSameRequest (s : ScriptData) (g h : List Entry) (r : ℕ) : Type 0 where

@@ -6,12 +6,12 @@ use Rattle.std.proofs.lemmas.Bool.{cases_eq, ne_eqb}
 use Rattle.page_origin.specs.declared.site.Site.{Site}
 use Rattle.history_entry.specs.declared.entry.Entry.{Entry}
 use Rattle.history_entry.specs.declared.entry.Entry.TheVariants.{Commit, Crash, Exit, Order, Said, Warm}
-use Rattle.script_model.specs.Entries.{last_match, lock_in}
+use Rattle.history_rules.specs.Orders.{lock_in}
 use Rattle.script_model.specs.ScriptData.{ScriptData}
 use Rattle.history_rules.proofs.Growth.{any_still, match_still}
-use Rattle.history_rules.specs.Entries.{ends_process, kills}
+use Rattle.history_rules.specs.Entries.{ends_process, kills, last_match}
 use Rattle.history_rules.specs.Processes.{Dead, Stage, Warm, is_dead, stage_of_lock, standing, warms, is_warm, is_locked, lock_of}
-use Rattle.history_rules.specs.Services.{ServiceRule}
+use Rattle.service_rule.specs.Services.{ServiceRule}
 use Rattle.history_steps.specs.Objects.{ChangesOne}
 
 -- a standing by what it is made of: a death, a start and the last order

@@ -11,7 +11,7 @@ use Rattle.script_model.specs.ResourceData.{fails_at_once, ResourceData}
 use Rattle.script_model.specs.ScriptData.{ScriptData}
 use Rattle.script_model.specs.declared.verdict.Verdict.{Verdict}
 use Rattle.script_model.specs.declared.verdict.Verdict.TheVariants.{Allow, Block}
-use Rattle.history_rules.specs.Pieces.{has_ended, pieces}
+use Rattle.script_model.specs.Pieces.{has_ended, pieces}
 use Rattle.history_rules.specs.Redirects.{hop_url, is_redirect, is_spent, response}
 use Rattle.history_rules.specs.Requests.{cors_fails, delivered, has_head, is_live_request, request_chain, request_verdict}
 

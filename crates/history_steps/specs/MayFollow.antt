@@ -12,13 +12,12 @@ use Rattle.history_entry.specs.declared.entry.LocalWhat.{LocalWhat}
 use Rattle.history_entry.specs.declared.entry.LocalWhat.TheVariants.{Skipped, Took, Waited}
 use Rattle.history_entry.specs.declared.rule.Rule.{Rule}
 use Rattle.history_entry.specs.declared.rule.Rule.TheVariants.{N2, N3, N5, N6, N7, N8}
-use Rattle.script_model.specs.Entries.{OrderData, is_opened}
-use Rattle.script_model.specs.Navigations.{was_answered, order_of}
+use Rattle.history_rules.specs.Orders.{OrderData, order_of, was_answered}
 use Rattle.script_model.specs.ResourceData.{fails_at_once}
 use Rattle.script_model.specs.ScriptData.{ScriptData, starts}
 use Rattle.history_rules.specs.Choice.{choice, may_start, warm_process}
 use Rattle.history_rules.specs.Documents.{actions_done, documents, is_current, is_current_in, process_of}
-use Rattle.history_rules.specs.Entries.{ordered_to}
+use Rattle.history_rules.specs.Entries.{is_opened, ordered_to}
 use Rattle.history_rules.specs.Frames.{frame_of}
 use Rattle.history_rules.specs.Inboxes.{inbox}
 use Rattle.history_rules.specs.Judgement.{judge, judge_commit}
@@ -26,7 +25,7 @@ use Rattle.history_rules.specs.Navigations.{chain_of, commit_origin, is_pending}
 use Rattle.history_rules.specs.Processes.{is_locked, started}
 use Rattle.history_rules.specs.Redirects.{has_no_content, hop_url, is_redirect, is_spent, is_web, joined_url, last_url, response}
 use Rattle.history_rules.specs.Requests.{has_live_request}
-use Rattle.history_rules.specs.Services.{ServiceRule}
+use Rattle.service_rule.specs.Services.{ServiceRule}
 use Rattle.history_rules.specs.Sights.{next_act}
 use Rattle.history_rules.specs.declared.act.Act.{Act}
 use Rattle.history_rules.specs.declared.act.Act.TheVariants.{Crash as Crashes, Recv as Receives, Message as Sends, Skip, Wait as Waits}

@@ -7,12 +7,12 @@ use Rattle.history_entry.specs.declared.entry.HopOf.TheVariants.{Nav, Req}
 use Rattle.history_entry.specs.declared.policy.Policy.{Policy}
 use Rattle.script_model.specs.ScriptData.{ScriptData}
 use Rattle.history_rules.specs.Processes.{standing}
-use Rattle.history_rules.specs.Services.{ServiceRule}
+use Rattle.service_rule.specs.Services.{ServiceRule}
 use Rattle.history_steps.specs.MayFollow.{MayFollow}
 use Rattle.history_steps.specs.Nexts.{nexts}
 use Rattle.history_steps.specs.Run.{IsRun, Legal}
 use Rattle.history_steps.specs.ScriptLimits.{IsWithinLimits}
-use Rattle.history_steps.specs.Text.{text_of}
+use Rattle.history_entries.specs.Text.{text_of}
 
 -- what an entry is about: the next start page, the warm process, a navigation, a request, a document, an order or a process
 pub data Object : Type 0 where

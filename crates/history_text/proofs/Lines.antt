@@ -17,7 +17,7 @@ use Rattle.entry_reading.specs.Spellings.{BeginsWithNoLine, SpellsNone}
 use Rattle.entry_reading.proofs.Answered.{unread}
 use Rattle.entry_reading.proofs.FirstLine.{nothing_begins}
 use Rattle.entry_reading.proofs.LinesBack.{before_feed, one_line}
-use Rattle.history.specs.Text.{head_of, lines_of, text_of, version_line}
+use Rattle.history_entries.specs.Text.{head_of, lines_of, text_of, version_line}
 use Rattle.history_text.specs.declared.stop.TextStop.{TextStop}
 use Rattle.history_text.specs.declared.stop.TextStop.TheVariants.{BadLine, NoMemory}
 use Rattle.history_text.specs.Texts.{AreEntriesOf, BeginsWithNoLineOf, HasRuleOf, IsEntryOf, IsFirstBadLine, IsTextOf, first_line, policy_of}

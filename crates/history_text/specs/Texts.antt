@@ -8,7 +8,7 @@ use Rattle.history_entry.specs.declared.policy.Policy.TheVariants.{One, Two}
 use Rattle.history_entry.specs.declared.rule.Rule.TheVariants.{B8}
 use Rattle.entry_text.specs.Lines.{line_of}
 use Rattle.entry_reading.specs.Entries.{IsEntry}
-use Rattle.history.specs.Text.{text_of, version_line}
+use Rattle.history_entries.specs.Text.{text_of, version_line}
 
 -- the policy of a text: the second where it begins with the version line
 abbrev pub policy_of : List ℕ → Policy

@@ -4,7 +4,7 @@ ghost use Rattle.history_entry.specs.declared.policy.Policy.TheVariants.{Two};
 ghost use Rattle.history_text.specs.Texts.{AreEntriesOf};
 
 use entry_reading::entry_is_kept;
-use history::History;
+use history_entries::History;
 
 /// Says that each entry of a history is one that its type keeps. So `read_text` reads the text of every history under the
 /// second policy back as that history. It only looks at the entries.

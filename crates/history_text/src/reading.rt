@@ -5,16 +5,14 @@ ghost use Rattle.history_entry.specs.CarriedRules.{carried_rule};
 ghost use Rattle.history_entry.specs.declared.entry.Entry.{Entry as EntryData};
 ghost use Rattle.history_entry.specs.declared.policy.Policy.{Policy as PolicyData};
 ghost use Rattle.entry_text.specs.Lines.{line_of};
-ghost use Rattle.history.specs.Text.{head_of};
+ghost use Rattle.history_entries.specs.Text.{head_of};
 ghost use Rattle.history_text.specs.Texts.{BeginsWithNoLineOf, HasRuleOf, IsEntryOf, IsFirstBadLine, IsTextOf, first_line, policy_of};
 
 use crate::stop::TextStop;
 use entry_reading::{EntryStop, read_line};
-use history::{Entry, History, Rule};
+use history_entries::{Entry, History, Rule, VERSION_LINE};
 use history_entry::Policy;
 use std::alloc::Global;
-
-const VERSION_LINE: &[u8] = b"history 2\n";
 
 /// The policy of a text, and what stands behind its version line.
 fn policy_of(bytes: &[u8]) -> (Policy, &[u8])

@@ -2,7 +2,7 @@ use crate::{
     EntryStop, TextStop, history_is_kept, message_text, read_entry, read_message, read_reply,
     read_text, reply_text,
 };
-use history::text_of;
+use history_entries::text_of;
 use history_entry::Policy;
 use std::alloc::Global;
 use std::process::Abort;

@@ -27,12 +27,12 @@ use Rattle.history_rules.specs.Frames.{frames_made, navigations_made}
 use Rattle.history_rules.specs.Inboxes.{PostData, body_post, inbox, post_at, post_in, posts_to, takes}
 use Rattle.history_rules.specs.Judgement.{judge, judge_commit}
 use Rattle.history_rules.specs.Navigations.{chain_of, is_newest, is_pending}
-use Rattle.history_rules.specs.Pieces.{pieces}
+use Rattle.script_model.specs.Pieces.{pieces}
 use Rattle.history_rules.specs.Processes.{is_locked}
 use Rattle.history_rules.specs.Redirects.{last_url}
 use Rattle.history_rules.specs.Requests.{delivered, request_chain}
 use Rattle.history_rules.specs.Responses.{absent, resource_at}
-use Rattle.history_rules.specs.Services.{ServiceRule}
+use Rattle.service_rule.specs.Services.{ServiceRule}
 use Rattle.history_rules.specs.Sights.{next_act}
 use Rattle.history_rules.specs.declared.act.Act.{Act}
 use Rattle.history_rules.specs.declared.act.Act.TheVariants.{Done, Message as Sends, Recv as Receives, Skip, Wait as Waits}
@@ -65,7 +65,7 @@ at_end (x ∷ h) e = at_end h e
 
 -- ---- the pieces of a response
 
-found_at : (P : ResourceData → Type 0) (p : ResourceData → Bool) (xs : List ResourceData) (r : ResourceData) → AllByRecursion P xs → find p xs ≡ Some r → P r
+pub found_at : (P : ResourceData → Type 0) (p : ResourceData → Bool) (xs : List ResourceData) (r : ResourceData) → AllByRecursion P xs → find p xs ≡ Some r → P r
 found_at P p [] r all is = absurd (cc)
 found_at P p (x ∷ xs) r all is = by_cases (p x) (found_at P p xs r all.1) is
   where

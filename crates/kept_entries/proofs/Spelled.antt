@@ -46,7 +46,7 @@ use Rattle.history_rules.specs.Frames.{adder_of, frame_of, frames_made, is_sandb
 use Rattle.history_rules.specs.Judgement.{in_group, judge_add_frame, judge_body, judge_navigate, judge_open_page, lock_admits, read_url_rows, src_rows, url_rows}
 use Rattle.history_rules.specs.Navigations.{base_of_class, base_origin, body_initiator, body_url, chain_of, commit_origin, first_url, hop_of_navigation, initiator_in, initiator_of, opaque_of, src_url, url_of_text}
 use Rattle.history_rules.specs.Redirects.{hop_url, is_redirect, is_spent, is_web, joined_url, last_url, location_of, response}
-use Rattle.history_rules.specs.Services.{ServiceRule}
+use Rattle.service_rule.specs.Services.{ServiceRule}
 use Rattle.history_steps.proofs.Commits.{passed}
 use Rattle.history_steps.proofs.Presence.{accepted_row, filtered}
 use Rattle.history_steps.proofs.Requests.{filter_passes}
@@ -89,7 +89,7 @@ body_okay rule s h p d (OpenPage url) makes okay =
     url_okay s h url (denied (nat_le 64 (frames_made s h)) L1 (url_rows s h url) (denied (is_sandboxed s h (frame_of s h d)) N9 (if nat_le 64 (frames_made s h) then Deny L1 else url_rows s h url) okay))
 body_okay rule s h p d _ makes okay = absurd (cc)
 
-got : {X : Type 0} (xs : List X) (i : ℕ) → i < length xs → (x : X) × (slice_get xs i ≡ Some x)
+pub got : {X : Type 0} (xs : List X) (i : ℕ) → i < length xs → (x : X) × (slice_get xs i ≡ Some x)
 got [] i lt = absurd (omega arith)
 got (x ∷ xs) zero lt = (x, refl)
 got (x ∷ xs) (suc i) lt = got xs i (omega arith)

@@ -8,11 +8,11 @@ use Rattle.std.proofs.lemmas.Str.{IsCharBoundary-after_ascii, IsUtf8-append, IsU
 use Rattle.page_origin.proofs.Spellings.{url_is_text}
 use Rattle.page_origin.specs.UrlText.{is_url_spelling}
 use Rattle.history_entry.specs.declared.rule.Rule.TheVariants.{S2, S3, S4}
-use Rattle.script_model.specs.declared.service.Asked.{Asked}
-use Rattle.script_model.specs.declared.service.ServiceAnswer.TheVariants.{Said as Answered, Refused}
+use Rattle.service_rule.specs.declared.service.Asked.{Asked}
+use Rattle.service_rule.specs.declared.service.ServiceAnswer.TheVariants.{Said as Answered, Refused}
 use Rattle.history_rules.proofs.Apart.{and_left, and_right, from_cond, from_or}
-use Rattle.history_rules.specs.declared.limits.TheConstants.{MAX_STORE_KEYS}
-use Rattle.history_rules.specs.Store.{GetKey, RemoveKey, SetKey, StoreRequest, answer_request, answer_text, is_blank_byte, is_store_key, key_count, keyed, last_left, leaves, read_set, store_request, store_rule, value_of}
+use Rattle.service_rule.specs.declared.limits.TheConstants.{MAX_STORE_KEYS}
+use Rattle.service_rule.specs.Store.{GetKey, RemoveKey, SetKey, StoreRequest, answer_request, answer_text, is_blank_byte, is_store_key, key_count, keyed, last_left, leaves, read_set, store_request, store_rule, value_of}
 use Rattle.kept_entries.specs.EntryLaw.{AnswersTexts, IsTextAsked}
 
 -- the value that a request sets is a text

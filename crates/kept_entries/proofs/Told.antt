@@ -13,8 +13,7 @@ use Rattle.history_entry.specs.declared.body.Message.{Message}
 use Rattle.history_entry.specs.declared.entry.Entry.{Entry}
 use Rattle.history_entry.specs.declared.entry.Entry.TheVariants.{Said}
 use Rattle.history_entry.specs.declared.reply.Reply.TheVariants.{Ok as Okay}
-use Rattle.script_model.specs.Entries.{OrderData}
-use Rattle.script_model.specs.Navigations.{order_of}
+use Rattle.history_rules.specs.Orders.{OrderData, order_of}
 use Rattle.script_model.specs.ScriptData.{ScriptData, starts}
 use Rattle.history_rules.proofs.Apart.{from_else, from_map, from_then}
 use Rattle.history_rules.specs.Documents.{origin_of}

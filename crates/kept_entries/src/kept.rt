@@ -1,14 +1,17 @@
 //! What the types of a script keep of its texts, numbers and bytes.
 
-ghost use Rattle.std.specs.Prelude.{◌≡◌, IfSome, true};
+ghost use Rattle.std.specs.Prelude.{◌≡◌, IfSome, codes, true};
 ghost use Rattle.std.specs.List.{AllByRecursion};
 ghost use Rattle.hex.specs.Hex.{IsBytes};
+ghost use Rattle.http_header.specs.HeaderMap.{get};
 ghost use Rattle.page_origin.specs.UrlText.{is_url_spelling};
 ghost use Rattle.entry_reading.specs.Entries as entries;
 ghost use Rattle.kept_entries.specs.KeptScripts as scripts;
 
+use http_header::HeaderMap;
 use script_model::{
-    Action, Origin, PageUrl, RawBody, RawMessage, Resource, Script, Site, Src, Target, TupleOrigin,
+    Action, FieldText, Origin, PageUrl, RawBody, RawMessage, Resource, Script, Site, Src, Target,
+    TupleOrigin,
 };
 
 fn number_is_kept(_number: u32)
@@ -202,9 +205,19 @@ fn pages_are_kept(pages: &[PageUrl])
     }
 }
 
+fn location_is_kept(fields: &HeaderMap<FieldText>)
+    ensures { IfSome (get fields.now (codes "location")) IsBytes }
+{
+    match fields.get("location") {
+        Some(value) => bytes_are_kept(value.as_bytes()),
+        None => {}
+    }
+}
+
 fn resource_is_kept(resource: &Resource)
     ensures { scripts.IsKeptResource resource.now }
 {
+    location_is_kept(&resource.head.fields);
     bytes_are_kept(&resource.body);
     actions_are_kept(resource.actions.as_slice());
 }

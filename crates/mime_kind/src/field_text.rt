@@ -2,7 +2,6 @@ ghost use Rattle.std.specs.Prelude.{◌≡◌, ◌↔◌, true, false, reverse, 
 ghost use Rattle.std.specs.List.{list_all};
 ghost use Rattle.mime_kind.specs.FieldText.{is_field_byte, begins_blank, is_field_text};
 
-use crate::memory::NoMemory;
 use crate::texts::is_blank;
 use std::alloc::Global;
 use std::marker::Model;
@@ -22,7 +21,7 @@ pub enum FieldTextError {
     #[error("a byte is no field's, or a blank stands at an end")]
     Invalid,
     /// Memory ran out.
-    #[error("no memory")]
+    #[error("{}", call_answers::NoMemory)]
     NoMemory,
 }
 
@@ -101,14 +100,6 @@ impl FieldText {
         ensures field { is_field_text self.now ≡ true }
     {
         self.text.as_bytes()
-    }
-
-    /// An equal text.
-    pub fn copy(&self, alloc: Global) -> Result<Self, NoMemory>
-        ensures { IfOk result (λ copy. copy ≡ self.now) }
-    {
-        let text = String::from_str(alloc, self.text.as_str())?;
-        Ok(FieldText { text })
     }
 }
 

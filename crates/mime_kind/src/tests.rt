@@ -1,5 +1,5 @@
 use crate::{
-    FieldText, FieldTextError, Head, Kind, NoMemory, ResourcePolicy, is_joined, kind_of, nosniff,
+    FieldText, FieldTextError, Head, Kind, ResourcePolicy, is_joined, kind_of, nosniff,
     resource_policy, stripped,
 };
 use http::StatusCode;
@@ -362,8 +362,7 @@ fn field_texts(rt: HostRuntime) -> Result<(), Fail> {
         match FieldText::new(rt.alloc(), text) {
             Ok(field) => {
                 assert!(rt; *is_field && field.as_str() == *text);
-                let copy = field.copy(rt.alloc())?;
-                assert!(rt; copy == field && copy.as_bytes() == text.as_bytes());
+                assert!(rt; field.as_bytes() == text.as_bytes());
             }
             Err(error) => assert!(rt; !*is_field && error == FieldTextError::Invalid),
         }
@@ -391,7 +390,5 @@ fn error_texts(rt: HostRuntime) -> Result<(), Fail> {
     );
     let field = format!(in rt.alloc(); "{}", FieldTextError::NoMemory)?;
     assert_eq!(rt; field.as_str(), "no memory");
-    let memory = format!(in rt.alloc(); "{}", NoMemory)?;
-    assert_eq!(rt; memory.as_str(), "no memory");
     Ok(())
 }

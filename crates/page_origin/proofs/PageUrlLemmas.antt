@@ -66,6 +66,12 @@ pub read_refused : (base : Option Parts) (text : List ℕ) (e : ParseError) → 
 read_refused base text e short why =
     ⊎_elim (λ bad. ⊎_elim (λ none. inl none) (λ kind. inr (read_bad base text e short bad ∙ ap Err (sym kind))) (two_ways e)) (λ room. inl (no_room e room)) why
 
+-- what a failed call says of a text's parts, where memory did not run out
+pub no_parts : (text : List ℕ) (e : ParseError) → (parse_url None text ≡ Err e) ⊎ IsOutOfRoom e → (refusal_of e ≡ NoMemory → ⊥) → parts_of text ≡ None
+unfolding parts_of
+no_parts text e (inl bad) room = ap result_ok bad
+no_parts text e (inr out) room = absurd (room (no_room e out))
+
 -- what admitting says of reading
 pub read_admitted : (base : Option Parts) (text : List ℕ) (url : Parts) (result : Result (List ℕ) UrlRefusal) → length text ≤ 2048 → parse_url base text ≡ Ok url → result ≡ admitted (url_text url) → Gives result (read_url base text)
 read_admitted base text url (Ok x) short good is = read_good base text url short good ∙ sym is

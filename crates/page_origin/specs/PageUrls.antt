@@ -1,11 +1,12 @@
 -- The URLs of pages, seen as their texts: reading, joining and serializing by the URL Standard as the crate `url` defines
 -- it, of at most 2,048 bytes, all printable.
-use Rattle.std.specs.Prelude.{◌≡◌, ℕ, Bool, ◌&&◌, ◌||◌, ◌==◌, nat_lt, List, length, codes, bytes_eq, Option, None, Result, Ok, Err, if◌then◌else◌, MatchResult, ◌⊎◌}
+use Rattle.std.specs.Prelude.{◌≡◌, ℕ, Bool, ◌&&◌, ◌||◌, ◌==◌, nat_lt, List, length, codes, bytes_eq, Option, None, Result, Ok, Err, if◌then◌else◌}
 use Rattle.std.specs.List.{list_all, before_first}
 use Rattle.std.specs.Result.{result_ok}
 use Rattle.std.specs.Option.{option_map_or}
 use Rattle.url.specs.Parts.{Parts, serialize}
 use Rattle.url.specs.Parser.{parse_url, Parsed}
+use Rattle.call_answers.specs.Answers.{GivesUnless}
 use Rattle.page_origin.specs.declared.page.UrlRefusal.{UrlRefusal}
 use Rattle.page_origin.specs.declared.page.UrlRefusal.TheVariants.{TooLong, BadUrl, NoMemory}
 use Rattle.page_origin.specs.declared.class.UrlClass.{UrlClass}
@@ -49,7 +50,7 @@ join_url_of base text = read_url (parts_of base) text
 
 -- a call answers this, but for want of memory
 abbrev pub Gives : {T : Type 0} → Result T UrlRefusal → Result T UrlRefusal → Type 0
-Gives result expected = MatchResult result (λ x. expected ≡ Ok x) (λ e. (e ≡ NoMemory) ⊎ (expected ≡ Err e))
+Gives result expected = GivesUnless NoMemory result expected
 
 abbrev pub is_http : List ℕ → Bool
 is_http scheme = bytes_eq scheme (codes "http") || bytes_eq scheme (codes "https")

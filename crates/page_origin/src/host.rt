@@ -1,8 +1,8 @@
 ghost use Rattle.std.specs.Prelude.{◌≡◌, true, false, Err, IfOk, string_bytes};
 ghost use Rattle.page_origin.specs.HostSpelling.{is_host};
 
-use crate::memory::NoMemory;
 use crate::text_bytes::{TextRefusal, is_host, text_copy};
+use call_answers::NoMemory;
 use std::alloc::Global;
 use std::marker::Model;
 

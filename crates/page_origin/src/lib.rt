@@ -5,9 +5,9 @@
 //! made for one document, and keeps the site that it comes from. A site is a scheme with a host.
 #![tactic(auto)]
 
+mod any_text;
 mod class;
 mod host;
-mod memory;
 mod origin;
 mod origin_spelling;
 mod page;
@@ -17,9 +17,10 @@ mod text_bytes;
 mod tuple;
 mod url_text;
 
+pub use any_text::{class_of_text, join_text, tuple_of_text};
+pub use call_answers::NoMemory;
 pub use class::UrlClass;
 pub use host::HostText;
-pub use memory::NoMemory;
 pub use origin::{OpaqueOrigin, Origin, TupleOrigin, equal_origins, same_origin};
 pub use origin_spelling::{OriginText, origin_text};
 pub use page::{PageUrl, UrlRefusal, join_url, page_url};

@@ -2,8 +2,8 @@ ghost use Rattle.std.specs.Prelude.{◌≡◌, ◌↔◌, IfOk, IsTrue};
 ghost use Rattle.page_origin.specs.Origins.{same_origin};
 
 use crate::host::HostText;
-use crate::memory::NoMemory;
 use crate::site::{Scheme, Site};
+use call_answers::NoMemory;
 use std::alloc::Global;
 
 /// The tuple origin of a URL: its scheme, host and port.

@@ -3,9 +3,9 @@
 ghost use Rattle.std.specs.Prelude.{◌≡◌, IfOk, codes, string_bytes};
 ghost use Rattle.page_origin.specs.Origins as origins;
 
-use crate::memory::NoMemory;
 use crate::origin::{Origin, TupleOrigin};
 use crate::site::Scheme;
+use call_answers::NoMemory;
 use std::alloc::{AllocError, Global};
 use std::marker::Model;
 

@@ -1,16 +1,16 @@
-ghost use Rattle.std.specs.Prelude.{◌≡◌, true, IfOk, None, Ok};
+ghost use Rattle.std.specs.Prelude.{◌≡◌, true, IfOk, None, Ok, Some};
 ghost use Rattle.std.specs.List.{list_all};
 ghost use Rattle.url.specs.Parser.{parse_url};
 ghost use Rattle.page_origin.specs.HostSpelling.{is_host};
 ghost use Rattle.page_origin.specs.UrlText.{is_printable, is_url_spelling};
-ghost use Rattle.page_origin.specs.PageUrls.{Gives, page_url_of, join_url_of, url_text, admitted, key_of, class_of};
+ghost use Rattle.page_origin.specs.PageUrls.{Gives, page_url_of, join_url_of, read_url, url_text, admitted, key_of, class_of};
 ghost use Rattle.page_origin.specs.Origins as origins;
 
 use crate::class::UrlClass;
-use crate::memory::NoMemory;
 use crate::parts::{class_of_url, host_of_url, refusal, scheme_of_url, text_of_url};
 use crate::site::Scheme;
 use crate::text_bytes::is_printable;
+use call_answers::NoMemory;
 use std::alloc::Global;
 use std::marker::Model;
 use thiserror::Error;
@@ -29,8 +29,19 @@ pub enum UrlRefusal {
     #[error("the text is no URL")]
     BadUrl,
     /// Memory ran out.
-    #[error("{}", crate::memory::NoMemory)]
+    #[error("{}", call_answers::NoMemory)]
     NoMemory,
+}
+
+impl From<NoMemory> for UrlRefusal {
+    ghost use Rattle.std.specs.Prelude.{◌≡◌};
+    ghost use Rattle.page_origin.specs.declared.page.UrlRefusal.TheVariants.{NoMemory as OutOfMemory};
+
+    ghost from_gives = { λ _ refusal. refusal ≡ OutOfMemory };
+
+    fn from(_: NoMemory) -> UrlRefusal {
+        UrlRefusal::NoMemory
+    }
 }
 
 /// The URL of a page, by the URL Standard, seen as its text.
@@ -82,22 +93,30 @@ pub fn page_url(alloc: Global, text: &str) -> Result<PageUrl, UrlRefusal>
     }
 }
 
-/// The URL that a text names against the URL of a page of class [`UrlClass::Web`].
-pub fn join_url(_alloc: Global, base: &PageUrl, text: &str) -> Result<PageUrl, UrlRefusal>
-    requires { class_of base.now ≡ UrlClass.Web }
-    ensures { Gives result (join_url_of base.now text.now) }
+/// The URL that a text names against a URL that was read.
+pub(crate) fn join_parsed(base: &Url, text: &str) -> Result<PageUrl, UrlRefusal>
+    requires { parse_url None (url_text base.now) ≡ Ok base.now }
+    ensures { Gives result (read_url (Some base.now) text.now) }
 {
     if text.len() > MAX_LENGTH {
         return Err(UrlRefusal::TooLong);
     }
-    let _valid_base = base.url.as_str();
-    match base.url.join(text) {
+    let _valid_base = base.as_str();
+    match base.join(text) {
         Ok(url) => {
             let _valid = url.as_str();
             admit(url)
         }
         Err(error) => Err(refusal(error)),
     }
+}
+
+/// The URL that a text names against the URL of a page of class [`UrlClass::Web`].
+pub fn join_url(_alloc: Global, base: &PageUrl, text: &str) -> Result<PageUrl, UrlRefusal>
+    requires { class_of base.now ≡ UrlClass.Web }
+    ensures { Gives result (join_url_of base.now text.now) }
+{
+    join_parsed(&base.url, text)
 }
 
 impl PageUrl {

@@ -1,7 +1,7 @@
 ghost use Rattle.std.specs.Prelude.{◌≡◌, ◌↔◌, IfOk, IsTrue};
 
 use crate::host::HostText;
-use crate::memory::NoMemory;
+use call_answers::NoMemory;
 use std::alloc::Global;
 
 /// The schemes that a site or a tuple origin has.

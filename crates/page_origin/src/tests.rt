@@ -3,8 +3,9 @@ ghost use Rattle.page_origin.specs.PageUrls.{class_of};
 
 use crate::{
     HostText, NoMemory, OpaqueOrigin, Origin, OriginText, PageUrl, Scheme, Site, TextRefusal,
-    TupleOrigin, UrlClass, UrlRefusal, UrlText, equal_origins, equal_sites, has_origin, join_url,
-    origin_text, page_url, same_origin, same_tuple, tuple_of,
+    TupleOrigin, UrlClass, UrlRefusal, UrlText, class_of_text, equal_origins, equal_sites,
+    has_origin, join_text, join_url, origin_text, page_url, same_origin, same_tuple, tuple_of,
+    tuple_of_text,
 };
 use std::alloc::Global;
 use std::process::Abort;
@@ -31,6 +32,43 @@ fn classes_and_keys(rt: HostRuntime) -> Result<(), Fail> {
         assert!(rt; url.class() == *class, "{text}");
         assert!(rt; url.key() == *key, "{text}");
     }
+    Ok(())
+}
+
+/// Texts that need not be a page's URL: what they lead to, and what `/y` is against them.
+const ANY_TEXTS: &[(&str, UrlClass, Result<&str, UrlRefusal>)] = &[
+    ("HTTP://A.com:80/x", UrlClass::Web, Ok("http://a.com/y")),
+    ("data:,x", UrlClass::DataUrl, Err(UrlRefusal::BadUrl)),
+    ("no url", UrlClass::Foreign, Err(UrlRefusal::BadUrl)),
+    ("", UrlClass::Foreign, Err(UrlRefusal::BadUrl)),
+];
+
+#[test]
+fn any_texts_as_urls(rt: HostRuntime) -> Result<(), Fail> {
+    let alloc = rt.alloc();
+    for (text, class, joined) in ANY_TEXTS {
+        assert!(rt; class_of_text(alloc, text)? == *class, "{text}");
+        match join_text(alloc, text, "/y") {
+            Ok(url) => assert!(rt; *joined == Ok(url.text())),
+            Err(refusal) => assert!(rt; *joined == Err(refusal)),
+        }
+    }
+    assert!(rt; join_text(alloc, "no url", "https://b.com")?.text() == "https://b.com/");
+    let longer = padded(alloc, "https://a.com/", 'x', 4000)?;
+    assert!(rt; class_of_text(alloc, longer.as_str())? == UrlClass::Web);
+    Ok(())
+}
+
+#[test]
+fn tuple_of_any_text(rt: HostRuntime) -> Result<(), Fail> {
+    let alloc = rt.alloc();
+    if class_of_text(alloc, "HTTPS://A.com:444/x")? != UrlClass::Web {
+        return Err(Fail::new("the URL is not of the web"));
+    }
+    let tuple = tuple_of_text(alloc, "HTTPS://A.com:444/x")?;
+    assert!(rt;
+        tuple.scheme == Scheme::Https && tuple.host.as_str() == "a.com" && tuple.port == 444
+    );
     Ok(())
 }
 

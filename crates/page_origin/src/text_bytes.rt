@@ -5,7 +5,7 @@ ghost use Rattle.std.specs.List.{list_all};
 ghost use Rattle.page_origin.specs.HostSpelling.{is_address_byte, is_host, is_name_byte};
 ghost use Rattle.page_origin.specs.UrlText.{is_printable, is_url_spelling};
 
-use crate::memory::NoMemory;
+use call_answers::NoMemory;
 use std::alloc::{AllocError, Global};
 use thiserror::Error;
 

@@ -6,9 +6,9 @@ ghost use Rattle.page_origin.specs.Origins as origins;
 
 use crate::class::UrlClass;
 use crate::host::HostText;
-use crate::memory::NoMemory;
 use crate::origin::{Origin, TupleOrigin};
 use crate::page::PageUrl;
+use call_answers::NoMemory;
 use std::alloc::Global;
 
 /// The tuple origin of a URL of class [`UrlClass::Web`], by the URL Standard.

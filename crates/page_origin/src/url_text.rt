@@ -1,9 +1,9 @@
 ghost use Rattle.std.specs.Prelude.{◌≡◌, true, false, Err, IfOk, string_bytes};
 ghost use Rattle.page_origin.specs.UrlText.{is_url_spelling};
 
-use crate::memory::NoMemory;
 use crate::page::PageUrl;
 use crate::text_bytes::{TextRefusal, is_url_spelling, text_copy};
+use call_answers::NoMemory;
 use std::alloc::Global;
 use std::marker::Model;
 

@@ -4,8 +4,8 @@ ghost use Rattle.policy_table.specs.Changes.{Changes};
 ghost use Rattle.policy_table.specs.declared.standing.Standing.{Standing};
 ghost use Rattle.policy_table.specs.declared.standing.TheConstants.{PROCESSES};
 
-use crate::no_memory::NoMemory;
 use crate::standing::Standing;
+use call_answers::NoMemory;
 
 /// What the table asks of the object that it shares: a history, to which each call adds one entry
 /// or none, and the standing of each process in a history.

@@ -10,7 +10,6 @@ ghost use Rattle.policy_table.specs.declared.standing.TheConstants.{PROCESSES};
 
 use crate::booked::Booked;
 use crate::handle::Handle;
-use crate::no_memory::NoMemory;
 use crate::pass::{Pass, seat_of, sit};
 use crate::plays::OneHistory;
 use crate::row_words::{decode, first_words};
@@ -21,6 +20,7 @@ use crate::steps::{
 };
 use crate::view::View;
 use atomic_table::Table;
+use call_answers::NoMemory;
 use std::alloc::Global;
 use std::marker::Model;
 use std::sync::Wait;

@@ -22,7 +22,6 @@
 mod booked;
 mod desk;
 mod handle;
-mod no_memory;
 mod pass;
 mod plays;
 mod row_words;
@@ -31,9 +30,9 @@ mod steps;
 mod view;
 
 pub use booked::Booked;
+pub use call_answers::NoMemory;
 pub use desk::Desk;
 pub use handle::Handle;
-pub use no_memory::NoMemory;
 pub use pass::Pass;
 pub use standing::{PROCESSES, Standing};
 

@@ -179,6 +179,6 @@ fn a_second_thread_changes_its_own_row(rt: HostRuntime) -> Result<(), Fail> {
 #[test]
 fn text_of_the_error(rt: HostRuntime) -> Result<(), Fail> {
     let text = format!(in rt.alloc(); "{NoMemory}")?;
-    assert_eq!(&rt; text.as_str(), "memory was refused");
+    assert_eq!(&rt; text.as_str(), "no memory");
     Ok(())
 }

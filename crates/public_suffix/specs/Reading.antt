@@ -1,6 +1,7 @@
 -- What a text says as a list of suffix rules: its rules in order, or its first bad line.
-use Rattle.std.specs.Prelude.{◌≡◌, ℕ, ◌+◌, ◌==◌, ◌-◌, ◌^◌, min, List, map, filter, Option, Some, None, Result, Ok, Err, MatchResult, ◌⊎◌, if◌then◌else◌}
+use Rattle.std.specs.Prelude.{◌≡◌, ℕ, ◌+◌, ◌==◌, ◌-◌, ◌^◌, min, List, map, filter, Option, Some, None, Result, Ok, Err, if◌then◌else◌}
 use Rattle.std.specs.List.{slice_split, position}
+use Rattle.call_answers.specs.Answers.{GivesUnless}
 use Rattle.public_suffix.specs.declared.refusal.RulesRefusal.{RulesRefusal}
 use Rattle.public_suffix.specs.declared.refusal.RulesRefusal.TheVariants.{BadRule, NoMemory}
 use Rattle.public_suffix.specs.RegistrableDomain.{SuffixRule}
@@ -28,7 +29,7 @@ reading text = read_unless (position is_bad (lines text)) (rules_on (lines text)
 
 -- a call answers this, but for want of memory
 abbrev pub Gives : {T : Type 0} → Result T RulesRefusal → Result T RulesRefusal → Type 0
-Gives result expected = MatchResult result (λ x. expected ≡ Ok x) (λ e. (e ≡ NoMemory) ⊎ (expected ≡ Err e))
+Gives result expected = GivesUnless NoMemory result expected
 
 -- what one line with this number gives: nothing, a rule, or the refusal of the line
 abbrev pub line_reading : List ℕ → ℕ → Result (Option SuffixRule) RulesRefusal

@@ -10,8 +10,8 @@ pub enum RulesRefusal {
     /// told as 2^32 - 1.
     #[error("line {0} is no suffix rule")]
     BadRule(u32),
-    /// Memory was refused.
-    #[error("memory was refused")]
+    /// Memory ran out.
+    #[error("{}", call_answers::NoMemory)]
     NoMemory,
 }
 

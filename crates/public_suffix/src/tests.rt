@@ -342,7 +342,7 @@ fn long_texts(rt: HostRuntime) -> Result<(), Fail> {
 fn texts_of_refusals(rt: HostRuntime) -> Result<(), Fail> {
     let rows = [
         (RulesRefusal::BadRule(7), "line 7 is no suffix rule"),
-        (RulesRefusal::NoMemory, "memory was refused"),
+        (RulesRefusal::NoMemory, "no memory"),
     ];
     for (refusal, text) in rows {
         assert_eq!(rt; format!(in rt.alloc(); "{refusal}")?.as_str(), text);

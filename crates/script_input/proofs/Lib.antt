@@ -1,6 +1,5 @@
 pub mod BelowLemmas
 pub mod ItemsLemmas
-pub mod Numerals
 pub mod Blanks
 pub mod FieldNames
 pub mod HeaderLimits

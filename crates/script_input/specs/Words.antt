@@ -1,8 +1,5 @@
 -- Words. A wrong word is X2.
-use Rattle.std.specs.Prelude.{ℕ, ◌^◌, Bool, not, ◌&&◌, ◌||◌, ◌==◌, nat_lt, List, length, slice_index, take, drop, bytes_eq, codes, Option, Some, None, option_map, Ok, if◌then◌else◌}
-use Rattle.std.specs.List.{list_all}
-use Rattle.std.specs.Char.{is_ascii_digit}
-use Rattle.std.specs.Str.Parse.{digits_value}
+use Rattle.std.specs.Prelude.{ℕ, List, take, drop, bytes_eq, codes, Option, Some, None, option_map, Ok, if◌then◌else◌}
 use Rattle.serde_json.specs.Data.{Data}
 use Rattle.history_entry.specs.declared.body.Mode.{Mode}
 use Rattle.history_entry.specs.declared.body.Mode.TheVariants.{Cors, NoCors}
@@ -10,6 +7,7 @@ use Rattle.script_model.specs.declared.action.FrameRef.{FrameRef}
 use Rattle.script_model.specs.declared.action.FrameRef.TheVariants.{Child, Opener, Own, Parent, Top}
 use Rattle.script_input.specs.Checked.{Checked, ◌>>=◌, refuse, typed}
 use Rattle.script_input.specs.Refusals.{wrong_shape}
+use Rattle.decimal_text.specs.Numbers.{decimal_number}
 use Rattle.script_input.specs.Values.{string_at}
 
 -- `cors` or `no-cors`
@@ -23,17 +21,9 @@ mode_of word =
 abbrev pub mode_at : Data → Checked Mode
 mode_at d = string_at d >>= mode_of
 
--- digits, of which the first is no zero unless it is the only one
-unfoldable pub is_numeral : List ℕ → Bool
-is_numeral text = nat_lt 0 (length text) && list_all is_ascii_digit text && (length text == 1 || not (slice_index text 0 == 48))
-
--- the number below 2^32 that a text writes in decimal, without leading zeros
-unfoldable pub number_of : List ℕ → Option ℕ
-number_of text = if is_numeral text && nat_lt (digits_value 10 text) (2 ^ 32) then Some (digits_value 10 text) else None
-
 -- `child N`
 unfoldable pub child_of : List ℕ → Option FrameRef
-child_of word = if bytes_eq (take 6 word) (codes "child ") then option_map (λ n. Child n) (number_of (drop 6 word)) else None
+child_of word = if bytes_eq (take 6 word) (codes "child ") then option_map (λ n. Child n) (decimal_number (drop 6 word)) else None
 
 -- `self`, `parent`, `top`, `opener` or `child N`
 unfoldable pub frame_ref_of : List ℕ → Option FrameRef

@@ -1,14 +1,13 @@
 //! Words: modes, and frames as a document names them.
 
 ghost use Rattle.std.specs.Prelude.{◌≡◌};
-ghost use Rattle.std.specs.List.{list_all};
-ghost use Rattle.std.specs.Char.{is_ascii_digit};
 ghost use Rattle.script_input.specs.Answers.{Gives};
 ghost use Rattle.script_input.specs.Words as spec;
 
 use crate::refusal::{ScriptStop, WRONG_SHAPE, refused};
 use crate::text::string_at;
 use crate::value::Reader;
+use decimal_text::decimal_number;
 use script_model::{FrameRef, Mode};
 use serde_json::Value;
 use std::alloc::Global;
@@ -43,35 +42,12 @@ impl Reader for RequestMode {
     }
 }
 
-fn has_digits(text: &str) -> bool
-    ensures { result ≡ list_all is_ascii_digit text.now }
-{
-    text.as_bytes().iter().all(|byte| byte.is_ascii_digit())
-}
-
-#[tactic(auto, unfolding(crate::specs::Words::is_numeral))]
-fn is_numeral(text: &str) -> bool
-    ensures { result ≡ spec.is_numeral text.now }
-{
-    !text.is_empty() && has_digits(text) && (text.len() == 1 || text.as_bytes()[0] != b'0')
-}
-
-#[tactic(auto, unfolding(crate::specs::Words::number_of))]
-fn number_of(text: &str) -> Option<u32>
-    ensures { result ≡ spec.number_of text.now }
-{
-    if !is_numeral(text) {
-        return None;
-    }
-    text.parse::<u32>().ok()
-}
-
 #[tactic(auto, unfolding(crate::specs::Words::child_of))]
 fn child_of(word: &str) -> Option<FrameRef>
     ensures { result ≡ spec.child_of word.now }
 {
     match word.strip_prefix("child ") {
-        Some(number) => number_of(number).map(FrameRef::Child),
+        Some(number) => decimal_number(number.as_bytes()).map(FrameRef::Child),
         None => None,
     }
 }

@@ -1,7 +1,6 @@
 pub mod ActionLimits
 pub mod ResourceData
+pub mod Pieces
+pub mod CutPlaces
 pub mod ScriptData
-pub mod Entries
-pub mod Processes
-pub mod Navigations
 pub mod Verdicts

@@ -10,11 +10,11 @@ mod early;
 pub mod laws;
 pub mod limits;
 mod pages;
+mod pieces;
 mod plain;
 mod post;
 mod resource;
 mod script;
-mod service;
 mod verdict;
 
 pub use action::{Action, FrameRef, RawBody, RawMessage};
@@ -32,12 +32,13 @@ pub use page_origin::{
     UrlRefusal, UrlText, has_origin, join_url, page_url, same_origin, same_tuple, tuple_of,
 };
 pub use pages::PageUrls;
+pub use pieces::Pieces;
 pub use plain::plain_verdict;
 pub use post::Posted;
 pub use public_suffix::{Rules, RulesRefusal};
 pub use resource::{Actions, Cuts, Resource, Resources};
 pub use script::{Script, find};
-pub use service::{Asked, ServiceAnswer};
+pub use service_rule::{Asked, PlainStore, ServiceAnswer, ServiceRule};
 pub use site_url::{SiteRules, same_site, site_of, site_of_origin};
 pub use verdict::{Verdict, sniff_kind, sniffed_verdict};
 

@@ -15,8 +15,8 @@ use Rattle.script_model.specs.Verdicts.{is_left_out, is_same_site_chain, verdict
 use Rattle.script_model.specs.declared.verdict.Verdict.{Verdict}
 use Rattle.script_model.specs.declared.verdict.Verdict.TheVariants.{Allow, Block}
 use Rattle.history_rules.proofs.Equal.{equal_bytes, same_bytes}
-use Rattle.history_rules.specs.Pieces.{cut_at, pieces, sent_bytes}
-use Rattle.history_rules.specs.Requests.{response_verdict}
+use Rattle.script_model.specs.Pieces.{cut_at, pieces, sent_bytes}
+use Rattle.history_rules.specs.Requests.{is_read_chain, response_verdict}
 use Rattle.history_rules.specs.Responses.{absent, resource_at}
 use Rattle.history_laws.specs.Secret.{IsHidden, IsHiddenAlike, IsSecretBody, own_verdict, with_body, with_body_at, with_own_body}
 use Rattle.secret_bodies.proofs.OwnChains.{let_through, no_cors_by, unread}
@@ -71,6 +71,13 @@ module _ (s : ScriptData) (key body : List ℕ) where
   find_other : (k : List ℕ) → find_resource s2 k ≡ option_map (with_body_at key body) (find_resource s k)
   unfolding find_resource
   find_other k = find_mapped (λ x. bytes_eq (key_of x.url) k) (with_body_at key body) (λ x. at_same (λ y. bytes_eq (key_of y.url) k) x refl) s.resources
+
+  -- what stands at the key, as it is found without a fragment
+  pub at_key : (r : ResourceData) → find_resource s (key_of key) ≡ Some r → resource_at s2 key ≡ with_body_at key body r
+  at_key r found = ap (λ o. unwrap_or o (absent key)) (find_other (key_of key) ∙ ap (option_map (with_body_at key body)) found)
+
+  pub none_at_key : find_resource s (key_of key) ≡ None → resource_at s2 key ≡ absent key
+  none_at_key found = ap (λ o. unwrap_or o (absent key)) (find_other (key_of key) ∙ ap (option_map (with_body_at key body)) found)
 
   pub other_url : (url : List ℕ) → bytes_eq (key_of url) key ≡ false → resource_at s2 url ≡ resource_at s url
   unfolding find_resource
@@ -143,4 +150,4 @@ module _ (s : ScriptData) (key body : List ℕ) where
     pub verdict_same : (origin : Origin) (x : List ℕ) (xs : List (List ℕ)) (mode : Mode) → response_verdict s2 origin (x ∷ xs) mode (with_own_body body r) ≡ response_verdict s origin (x ∷ xs) mode r
     unfolding response_verdict verdict
     verdict_same origin x xs InCors = refl
-    verdict_same origin x xs NoCors = no_cors_same origin x xs secret.hidden
+    verdict_same origin x xs NoCors = ap (λ v. cond (is_read_chain (x ∷ xs)) v None) (no_cors_same origin x xs secret.hidden)

@@ -6,7 +6,7 @@ use Rattle.history_entry.specs.declared.entry.Entry.{Entry}
 use Rattle.history_entry.specs.declared.policy.Policy.{Policy}
 use Rattle.script_model.specs.ResourceData.{ResourceData}
 use Rattle.script_model.specs.ScriptData.{ScriptData, find_resource}
-use Rattle.history_rules.specs.Services.{ServiceRule}
+use Rattle.service_rule.specs.Services.{ServiceRule}
 use Rattle.history_steps.specs.Run.{Legal}
 use Rattle.history_laws.specs.Received.{received}
 use Rattle.history_laws.specs.Secret.{IsSecretBody, Secret, SecretsAreKept, swap_body, was_never_of, with_body}

@@ -1,3 +1,5 @@
+pub mod AnyCuts
+pub mod SwapSoFar
 pub mod Changed
 pub mod SameFrames
 pub mod OwnChains
@@ -5,6 +7,5 @@ pub mod Bodies
 pub mod SameWords
 pub mod SameNexts
 pub mod StaysLegal
-pub mod ReadChains
 pub mod SameReceived
 pub mod Kept

@@ -12,17 +12,16 @@ use Rattle.history_entry.specs.declared.entry.Entry.TheVariants.{Commit, Crash, 
 use Rattle.history_entry.specs.declared.entry.HopOf.TheVariants.{Nav, Req}
 use Rattle.history_entry.specs.declared.entry.LocalWhat.TheVariants.{Took, Waited}
 use Rattle.history_entry.specs.declared.rule.Rule.TheVariants.{B1, F1, N5, N6, N7, N8}
-use Rattle.script_model.specs.Entries.{OrderData, answers, is_opened}
-use Rattle.script_model.specs.Navigations.{was_answered}
+use Rattle.history_rules.specs.Orders.{OrderData, answers, was_answered}
 use Rattle.script_model.specs.ResourceData.{fails_at_once, ResourceData}
 use Rattle.script_model.specs.ScriptData.{ScriptData, find_resource, starts}
 use Rattle.script_model.specs.declared.post.Posted.{Posted}
 use Rattle.script_model.specs.declared.verdict.Verdict.{Verdict}
 use Rattle.script_model.specs.declared.verdict.Verdict.TheVariants.{Allow, Block}
-use Rattle.history_rules.specs.Entries.{ordered_to}
-use Rattle.history_rules.specs.Pieces.{pieces}
+use Rattle.history_rules.specs.Entries.{is_opened, ordered_to}
+use Rattle.script_model.specs.Pieces.{pieces}
 use Rattle.history_rules.specs.Redirects.{has_no_content, hop_url, is_redirect, is_spent, is_web, last_url, location_of, response}
-use Rattle.history_rules.specs.Services.{ServiceRule}
+use Rattle.service_rule.specs.Services.{ServiceRule}
 use Rattle.history_rules.specs.declared.act.Act.{Act}
 use Rattle.history_rules.specs.declared.act.Act.TheVariants.{Message as Sends, Recv as Receives, Skip, Wait as Waits}
 use Rattle.history_steps.specs.Deliveries.{body_end, end_how, end_next, head_by, head_next, redirect_end, request_hop, wire_end}

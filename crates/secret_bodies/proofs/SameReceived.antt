@@ -19,20 +19,20 @@ use Rattle.history_entry.specs.declared.body.Mode.TheVariants.{Cors as InCors, N
 use Rattle.history_entry.specs.declared.entry.Entry.{Entry}
 use Rattle.history_entry.specs.declared.entry.Entry.TheVariants.{End, Head, Piece}
 use Rattle.history_entry.specs.declared.rule.Rule.{Rule}
-use Rattle.script_model.specs.Entries.{OrderData, lock_in}
+use Rattle.history_rules.specs.Orders.{OrderData, lock_in}
 use Rattle.script_model.specs.ResourceData.{ResourceData}
 use Rattle.script_model.specs.ScriptData.{ScriptData, find_resource}
 use Rattle.script_model.specs.Verdicts.{cors_verdict, is_left_out, is_same_site_chain, is_tuple, verdict}
 use Rattle.script_model.specs.declared.verdict.Verdict.{Verdict}
 use Rattle.script_model.specs.declared.verdict.Verdict.TheVariants.{Allow, Block}
-use Rattle.history_rules.proofs.Apart.{and_left, and_right, from_map_or, from_then, not_both}
+use Rattle.history_rules.proofs.Apart.{and_left, and_right, from_cond, from_map_or, from_then, not_both}
 use Rattle.history_rules.proofs.Equal.{equal_bytes, origins_same, site_itself, sites_same}
 use Rattle.history_rules.specs.Documents.{hosted, origin_of}
-use Rattle.history_rules.specs.Pieces.{pieces}
+use Rattle.script_model.specs.Pieces.{has_ended, pieces, seen_body}
 use Rattle.history_rules.specs.Redirects.{last_url, response}
-use Rattle.history_rules.specs.Requests.{request_chain, request_document, request_mode, request_origin, request_verdict, response_verdict}
+use Rattle.history_rules.specs.Requests.{is_read_chain, request_chain, request_document, request_mode, request_origin, request_verdict, response_verdict}
 use Rattle.history_rules.specs.Responses.{resource_at}
-use Rattle.history_rules.specs.Services.{ServiceRule}
+use Rattle.service_rule.specs.Services.{ServiceRule}
 use Rattle.history_steps.proofs.Fixed.{verdict_from}
 use Rattle.history_steps.proofs.Induction.{legal_take}
 use Rattle.history_steps.proofs.Orders.{order_entry, order_of_found, order_site}
@@ -45,7 +45,7 @@ use Rattle.history_laws.specs.Secret.{IsHidden, IsHiddenAlike, IsSecretBody, has
 use Rattle.secret_bodies.proofs.Bodies.{of_key}
 use Rattle.secret_bodies.proofs.Changed.{NewBytes, after, changed}
 use Rattle.secret_bodies.proofs.OwnChains.{let_through, no_cors_by}
-use Rattle.secret_bodies.proofs.ReadChains.{last_read}
+use Rattle.history_laws.proofs.ReadChains.{last_read}
 use Rattle.secret_bodies.proofs.SameWords.{is_request_in_same}
 use Rattle.secret_bodies.proofs.StaysLegal.{new_bytes}
 
@@ -110,13 +110,20 @@ module _ (s : ScriptData) (body : List ℕ) (res : ResourceData) (secret : IsSec
   only : (v : Verdict) → Some v ≡ Some (Allow why) → v ≡ Allow why
   only v e = cc
 
-  pub allowed_site : (mode : Mode) → response_verdict s origin (x ∷ xs) mode res ≡ Some (Allow why) → site_of_origin s.rules origin ≡ site_of s.rules (last_url (x ∷ xs))
-  unfolding cors response_verdict verdict
-  allowed_site InCors e =
+  asked_verdict : Mode → Option Verdict
+  asked_verdict mode = verdict s.policy s.rules origin (x ∷ xs) mode res.head (seen_body res) (has_ended res)
+
+  site_by_verdict : (mode : Mode) → asked_verdict mode ≡ Some (Allow why) → site_of_origin s.rules origin ≡ site_of s.rules (last_url (x ∷ xs))
+  unfolding asked_verdict cors verdict
+  site_by_verdict InCors e =
       let allow : cors_verdict (cors origin (x ∷ xs) res.head.fields) ≡ Allow why = only (cors_verdict (cors origin (x ∷ xs) res.head.fields)) e in
       by_cors (is_same_origin_chain origin (x ∷ xs)) (allows (compared_text origin (x ∷ xs)) (get_all res.head.fields (codes "access-control-allow-origin"))) refl
       (no_values (get_all res.head.fields (codes "access-control-allow-origin")) (compared_text origin (x ∷ xs)) secret.closed) allow
-  allowed_site NoCors e = by_site (is_left_out s.policy s.rules origin (x ∷ xs) res.head) (is_same_site_chain s.rules origin (x ∷ xs)) refl refl e
+  site_by_verdict NoCors e = by_site (is_left_out s.policy s.rules origin (x ∷ xs) res.head) (is_same_site_chain s.rules origin (x ∷ xs)) refl refl e
+
+  pub allowed_site : (mode : Mode) → response_verdict s origin (x ∷ xs) mode res ≡ Some (Allow why) → site_of_origin s.rules origin ≡ site_of s.rules (last_url (x ∷ xs))
+  unfolding asked_verdict response_verdict
+  allowed_site mode e = site_by_verdict mode (from_cond (is_read_chain (x ∷ xs)) (asked_verdict mode) (Allow why) e).1
 
 module _ (rule : ServiceRule) (s : ScriptData) (key body : List ℕ) (h : List Entry) (legal : Legal rule s h) (res : ResourceData) (found : find_resource s key ≡ Some res) (secret : IsSecretBody s.policy res body)
     (keeps : (u : List ℕ) → IsReadUrl u → tuple_of (key_of u) ≡ tuple_of u) where

@@ -35,8 +35,9 @@ use Rattle.history_rules.specs.Entries.{accepted, makes_request}
 use Rattle.history_rules.specs.Inboxes.{PostData, inbox, post_at, post_in, posts_to, takes}
 use Rattle.history_rules.specs.Judgement.{ask_origin, compare_order, count_row, in_group, is_did_commit, is_own_origin, is_web_text, judge, judge_add_frame, judge_ask, judge_body, judge_commit, judge_fetch, judge_navigate, judge_open_page, judge_post, judge_receiver, judge_remove_frame, lock_admits, may_load, read_url_rows, reply_of_answer, src_rows, takes_origin, url_rows}
 use Rattle.history_rules.specs.Redirects.{last_url, response}
-use Rattle.history_rules.specs.Requests.{cors_fails, delivered, fetched_mode, fetched_url, has_end, has_head, has_live_request, head_in, hop_of_request, is_end_of, is_live_request, is_piece_of, is_request_of, request_chain, request_document, request_maker, request_mode, request_origin, request_verdict, requests, requests_made, response_verdict, head_of}
-use Rattle.history_rules.specs.Services.{ServiceRule, accepted_requests, asked_in}
+use Rattle.history_rules.specs.Requests.{cors_fails, delivered, fetched_mode, fetched_url, has_end, has_head, has_live_request, head_in, hop_of_request, is_end_of, is_live_request, is_piece_of, is_read_chain, is_request_of, request_chain, request_document, request_maker, request_mode, request_origin, request_verdict, requests, requests_made, response_verdict, head_of}
+use Rattle.service_rule.specs.Services.{ServiceRule}
+use Rattle.history_rules.specs.Services.{accepted_requests, asked_in}
 use Rattle.history_rules.specs.Sights.{added_by, body_srcdoc, is_srcdoc, next_act, resource_number, resource_of_document, sight_of, sight_with, srcdoc_of, act_of}
 use Rattle.history_rules.specs.declared.act.Act.TheVariants.{Done}
 use Rattle.history_rules.specs.declared.sight.Sight.{Sight}
@@ -333,10 +334,10 @@ module _ (to : NewBytes) (s : ScriptData) (key body : List ℕ) (h : List Entry)
 
     pub cors_fails_same : (q : ℕ) → cors_fails s2 h2 q ≡ cors_fails s h q
     unfolding cors_fails
-    cors_fails_same q = (λ i. is_cors (request_mode_same q i) && option_map_or
+    cors_fails_same q = (λ i. is_cors (request_mode_same q i) && is_read_chain (request_chain_same q i) && option_map_or
         (λ origin. is_failed (cors origin (request_chain_same q i) (response s2 (request_chain_same q i)).head.fields))
         (request_origin_same q i) false)
-        ∙ response_same (λ x. is_cors (request_mode h q) && option_map_or (λ origin. is_failed (cors origin (request_chain h q) x.head.fields)) (request_origin h q) false) refl (request_chain h q)
+        ∙ response_same (λ x. is_cors (request_mode h q) && is_read_chain (request_chain h q) && option_map_or (λ origin. is_failed (cors origin (request_chain h q) x.head.fields)) (request_origin h q) false) refl (request_chain h q)
 
     -- a request's first URL, and those that it was redirected to
     abbrev first_url : ℕ → List ℕ

@@ -8,11 +8,11 @@ use Rattle.history_entry.specs.declared.entry.Entry.TheVariants.{Piece}
 use Rattle.script_model.specs.ResourceData.{ResourceData}
 use Rattle.script_model.specs.ScriptData.{ScriptData, find_resource}
 use Rattle.history_rules.proofs.Apart.{from_map}
-use Rattle.history_rules.specs.Pieces.{pieces}
+use Rattle.script_model.specs.Pieces.{pieces}
 use Rattle.history_rules.specs.Redirects.{last_url, response}
 use Rattle.history_rules.specs.Requests.{delivered, has_head, is_live_request, request_chain}
 use Rattle.history_rules.specs.Responses.{resource_at}
-use Rattle.history_rules.specs.Services.{ServiceRule}
+use Rattle.service_rule.specs.Services.{ServiceRule}
 use Rattle.history_steps.proofs.Fixed.{fixed_from}
 use Rattle.history_steps.proofs.Rows.{piece_row}
 use Rattle.history_steps.specs.Deliveries.{piece_next}

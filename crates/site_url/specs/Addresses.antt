@@ -1,19 +1,13 @@
 -- Hosts that are IP addresses, as the host serializer of the URL Standard writes them.
-use Rattle.std.specs.Prelude.{ℕ, ◌+◌, ◌-◌, ◌*◌, Bool, ◌==◌, ◌&&◌, ◌||◌, not, nat_lt, nat_le, List, length, fold, slice_index}
+use Rattle.std.specs.Prelude.{ℕ, Bool, false, ◌==◌, ◌&&◌, ◌||◌, nat_lt, List, slice_index}
 use Rattle.std.specs.List.{list_all}
+use Rattle.std.specs.Option.{option_map_or}
+use Rattle.decimal_text.specs.Numbers.{decimal_number}
 use Rattle.public_suffix.specs.Labels.{labels, label_count}
-
-abbrev pub is_digit : ℕ → Bool
-is_digit b = nat_le 48 b && nat_le b 57
-
--- the number that digits write
-abbrev pub number_of : List ℕ → ℕ
-number_of digits = fold (λ number b. number * 10 + (b - 48)) 0 digits
 
 -- a number from 0 to 255 in decimal, without leading zeros
 unfoldable pub is_octet : List ℕ → Bool
-is_octet text = nat_le 1 (length text) && nat_le (length text) 3 && list_all is_digit text
-    && (length text == 1 || not (slice_index text 0 == 48)) && nat_lt (number_of text) 256
+is_octet text = option_map_or (λ n. nat_lt n 256) (decimal_number text) false
 
 -- an IPv4 address: four such numbers with dots between them
 unfoldable pub is_dotted_quad : List ℕ → Bool

@@ -1,40 +1,21 @@
 //! Hosts that are IP addresses.
 
-ghost use Rattle.std.specs.Prelude.{◌≡◌, ◌≤◌, length};
+ghost use Rattle.std.specs.Prelude.{◌≡◌};
 ghost use Rattle.std.specs.List.{list_all};
 ghost use Rattle.public_suffix.specs.Labels.{labels, label_count};
-ghost use Rattle.site_url.specs.Addresses.{is_digit, number_of, is_octet, is_dotted_quad, is_ip_address};
+ghost use Rattle.site_url.specs.Addresses.{is_octet, is_dotted_quad, is_ip_address};
 
-fn has_digits(text: &str) -> bool
-    ensures { result ≡ list_all is_digit text.now }
-{
-    text.as_bytes()
-        .iter()
-        .all(|byte| *byte >= b'0' && *byte <= b'9')
-}
-
-/// The number that up to three digits write.
-fn number_of(digits: &str) -> u32
-    requires { length digits.now ≤ 3 }
-    ensures { result ≡ number_of digits.now }
-{
-    let mut number: u32 = 0;
-    for byte in digits.as_bytes() {
-        number = number * 10 + u32::from(byte.saturating_sub(b'0'));
-    }
-    number
-}
+use decimal_text::decimal_number;
 
 /// Whether a text is a number from 0 to 255 in decimal, without leading zeros.
 #[tactic(auto, unfolding(crate::specs::Addresses::is_octet))]
 fn is_octet(text: &str) -> bool
     ensures { result ≡ is_octet text.now }
 {
-    1 <= text.len()
-        && text.len() <= 3
-        && has_digits(text)
-        && (text.len() == 1 || text.as_bytes()[0] != b'0')
-        && number_of(text) < 256
+    match decimal_number(text.as_bytes()) {
+        Some(number) => number < 256,
+        None => false,
+    }
 }
 
 fn has_octets(host: &str) -> bool

@@ -1,42 +1,36 @@
 //! Whole lines, messages and replies: each kind, and texts that are near to one.
 
 use super::{is_bad, is_bad_message, is_bad_reply, is_message, is_read, is_reply};
-use crate::{EntryStop, read_entry, read_line};
-use history_entry::EntryKind;
+use crate::{EntryStop, read_line};
 use std::process::Abort;
 use std::test::Fail;
 
-const LINES: &[(&str, EntryKind)] = &[
-    ("open 0", EntryKind::Opened),
-    ("warm 10", EntryKind::Warm),
-    ("hop nav 1 https://a.com/b c", EntryKind::Hop),
-    ("hop req 2 x", EntryKind::Hop),
-    (
-        "order 0 1 =https://a.com https://a.com https://a.com/ x",
-        EntryKind::Order,
-    ),
-    ("navend 3 N5", EntryKind::NavEnd),
-    ("said 0 1 2 3 remove 4 => ok", EntryKind::Said),
-    ("crash 5", EntryKind::Crash),
-    ("commit 0 1 https://a.com 68 => kill K10", EntryKind::Commit),
-    ("local 0 1 2 waited", EntryKind::Local),
-    ("local 0 1 2 skipped", EntryKind::Local),
-    ("local 0 1 2 took http://=> -", EntryKind::Local),
-    ("head 6 A1", EntryKind::Head),
-    ("head 6 B8", EntryKind::Head),
-    ("piece 0 0 ff80", EntryKind::Piece),
-    ("end 7 whole", EntryKind::End),
-    ("end 7 blocked B8", EntryKind::End),
-    ("end 7 failed N7", EntryKind::End),
-    ("exit 8", EntryKind::Exit),
+const LINES: &[&str] = &[
+    "open 0",
+    "warm 10",
+    "hop nav 1 https://a.com/b c",
+    "hop req 2 x",
+    "order 0 1 =https://a.com https://a.com https://a.com/ x",
+    "navend 3 N5",
+    "said 0 1 2 3 remove 4 => ok",
+    "crash 5",
+    "commit 0 1 https://a.com 68 => kill K10",
+    "local 0 1 2 waited",
+    "local 0 1 2 skipped",
+    "local 0 1 2 took http://=> -",
+    "head 6 A1",
+    "head 6 B8",
+    "piece 0 0 ff80",
+    "end 7 whole",
+    "end 7 blocked B8",
+    "end 7 failed N7",
+    "exit 8",
 ];
 
 #[test]
 fn lines_of_each_kind(rt: HostRuntime) -> Result<(), Fail> {
-    for (line, kind) in LINES {
+    for line in LINES {
         is_read(&rt, rt.alloc(), line)?;
-        let entry = read_entry(rt.alloc(), line.as_bytes())?;
-        assert!(rt; entry.kind() == *kind, "{line}");
     }
     Ok(())
 }

@@ -45,8 +45,8 @@ fn refusals_have_texts(rt: HostRuntime) -> Result<(), Fail> {
 
 #[test]
 fn a_refusal_of_the_whole_script_has_a_text(rt: HostRuntime) -> Result<(), Fail> {
-    let found = Refusal::whole(rt.alloc(), 9).to_string(rt.alloc())?;
-    assert_eq!(rt; found.as_str(), "refused X9");
+    let found = Refusal::whole(rt.alloc(), 8).to_string(rt.alloc())?;
+    assert_eq!(rt; found.as_str(), "refused X8");
     Ok(())
 }
 

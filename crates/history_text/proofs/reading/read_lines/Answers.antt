@@ -1,7 +1,7 @@
 use Rattle.std.proofs.Common.{◌≡◌, ◌+◌, ◌-◌, ◌^◌, ◌∙◌, List, ap, length, refl, sym}
 use Rattle.std.specs.Prelude.{min}
 use Rattle.history_entry.specs.declared.entry.Entry.{Entry}
-use Rattle.history.specs.Text.{lines_of}
+use Rattle.history_entries.specs.Text.{lines_of}
 use Rattle.history_text.specs.Texts.{first_line}
 use Rattle.history_text.proofs.Lines.{entries_more, lines_more, shorter, text_read, text_stopped}
 use Rattle.history_text.proofs.reading.read_lines.Goals as goal

@@ -1,5 +1,5 @@
 use Rattle.std.proofs.Common.{◌≡◌, ◌++◌, length}
-use Rattle.history.specs.Text.{lines_of}
+use Rattle.history_entries.specs.Text.{lines_of}
 use Rattle.history_text.specs.Texts.{AreEntriesOf}
 use Rattle.history_text.proofs.reading.read_lines.Given as goal
 

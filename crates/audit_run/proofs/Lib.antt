@@ -1,0 +1,4 @@
+pub mod Following
+pub mod Unique
+pub mod Passing
+pub mod Words

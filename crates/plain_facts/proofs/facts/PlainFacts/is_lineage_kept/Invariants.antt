@@ -1,0 +1,14 @@
+use Rattle.std.proofs.Common.{◌≡◌}
+use Rattle.std.specs.Prelude.{suc}
+use Rattle.std.specs.List.{list_all}
+use Rattle.std.specs.Option.{option_map_or}
+use Rattle.history_rules.specs.Frames.{lineage}
+use Rattle.history_rules.specs.Documents.{is_kept}
+use Rattle.plain_facts.specs.Climbs.{lineage_from}
+use Rattle.plain_facts.proofs.facts.PlainFacts.is_lineage_kept.Given as goal
+
+abbrev pub invariant-loop-next : goal.invariant-loop-next
+invariant-loop-next l = list_all (is_kept l.self.script l.self.entries) (lineage_from l.self.script l.self.entries l.next) ≡ list_all (is_kept l.self.script l.self.entries) (lineage l.self.script l.self.entries l.fn.frame)
+
+abbrev pub decreases-loop-next : goal.decreases-loop-next
+decreases-loop-next l = option_map_or (λ climb. suc climb.left) l.next 0

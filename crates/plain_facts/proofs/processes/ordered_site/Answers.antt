@@ -1,0 +1,11 @@
+use Rattle.std.proofs.Common.{ap, ◌∙◌}
+use Rattle.std.specs.Option.{option_copied, option_or}
+use Rattle.history_rules.specs.Orders.{lock_in}
+use Rattle.plain_facts.proofs.LastMatch.{copied_or, last_match_step}
+use Rattle.plain_facts.proofs.processes.ordered_site.Goals as goal
+
+pub loop-entry-preserved : goal.loop-entry-preserved
+loop-entry-preserved c =
+    ap (λ o. option_copied o) c.or-last.ensures ∙ copied_or c.lock_in.result c.loop-entry.last
+    ∙ ap (λ o. option_or o (option_copied c.loop-entry.last)) c.lock_in.ensures
+    ∙ last_match_step (lock_in c.args.process) c.args.entries.now c.loop-entry.entry-index c.entry-item.result (option_copied c.loop-entry.last) c.loop-entry-test.true c.entry-item.is c.loop-entry.invariant

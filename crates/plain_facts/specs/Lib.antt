@@ -1,0 +1,3 @@
+pub mod HistoryOf
+pub mod Begun
+pub mod Climbs

@@ -1,0 +1,4 @@
+pub mod LastUrl
+pub mod Steps
+pub mod Posts
+pub mod ReadSoFar

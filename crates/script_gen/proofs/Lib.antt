@@ -1,0 +1,9 @@
+pub mod Ranges
+pub mod DrawSteps
+pub mod OwnUrls
+pub mod Suffixes
+pub mod FieldSteps
+pub mod BodySteps
+pub mod DocumentLimits
+pub mod ResponseLimits
+pub mod ScriptLimits
