@@ -1,7 +1,7 @@
 //! What one entry of a history says, and what its message and its reply say.
 //!
-//! Each function answers exactly the definition of its name in `history_rules` or `script_model`, in a module of the same
-//! subject. Numbers that are asked for are `u64`, since a history of a clause may be of any length.
+//! Each function answers exactly the definition of its name in `history_rules`, in a module of the same subject.
+//! Numbers that are asked for are `u64`, since a history of a clause may be of any length.
 #![tactic(auto)]
 
 mod asking;

@@ -1,5 +1,5 @@
 -- Each field is read back from its spelling.
-use Rattle.std.proofs.Common.{◌≡◌, ℕ, ◌<◌, ◌/◌, ◌%◌, Bool, true, false, ◌&&◌, ◌==◌, List, [], ◌∷◌, ◌++◌, length, get_or, take, drop, Some, refl, sym, ap, eq-eqb, ◌∙◌, append-nil, take-append-drop, drop-cons, arith, ⊎_elim, suc, zero}
+use Rattle.std.proofs.Common.{◌≡◌, ℕ, ◌<◌, ◌/◌, ◌%◌, Bool, true, false, ◌&&◌, ◌==◌, List, [], ◌∷◌, ◌++◌, length, get_or, take, drop, Some, refl, ap, ◌∙◌, arith, ⊎_elim, suc, zero}
 use Rattle.std.specs.Prelude.{Option, IsUtf8, bytes_eq, codes, decimal, nat_lt}
 use Rattle.std.specs.List.{list_all}
 use Rattle.std.specs.Char.{is_ascii_digit}
@@ -13,8 +13,9 @@ use lib.Utf8.{encode, encodes, scalar, scalars}
 use Rattle.page_origin.specs.UrlText.{is_url_spelling}
 use Rattle.decimal_text.proofs.Numerals.{decimal_digits}
 use Rattle.entry_text.specs.Lines.{hex_text}
+use Rattle.memchr.specs.Find.{Nowhere, Passes, is_byte}
 use Rattle.entry_reading.specs.Entries.{IsNumber}
-use Rattle.entry_reading.specs.Fields.{before, bytes_of, field_by, is_lower_digit, is_other, next_field, onwards, piece_of, text_of, url_of}
+use Rattle.entry_reading.specs.Fields.{before, bytes_of, field_by, is_lower_digit, next_field, onwards, piece_of, text_of, url_of}
 use Rattle.page_origin.proofs.Spellings.{are_visible, is_visible, list_all-weaker}
 
 -- ---- up to a mark
@@ -41,26 +42,26 @@ onwards_mark mark p (b ∷ text) rest other all on =
     let parts = and_parts (p b) (list_all p text) all in
     rw (differs mark p b other parts.0) (onwards_mark mark p text rest other parts.1 on)
 
--- the first mark parts a text
-pub parted : (mark : ℕ) (text : List ℕ) (i : ℕ) → list_all (is_other mark) (take i text) ≡ true → goes_on mark (drop i text) ≡ true → (take i text ≡ before mark text) × (drop i text ≡ onwards mark text)
-parted mark text i others on =
-    let whole : take i text ++ drop i text ≡ text = take-append-drop i text in
-    let other : is_other mark mark ≡ false = rw (eq-eqb mark mark refl) refl in (
-      sym (before_mark mark (is_other mark) (take i text) (drop i text) other others on) ∙ ap (before mark) whole,
-      sym (onwards_mark mark (is_other mark) (take i text) (drop i text) other others on) ∙ ap (onwards mark) whole,
-    )
+is_false : (test : Bool) → ¬ (test ≡ true) → test ≡ false
+is_false true is = absurd (is refl)
+is_false false is = refl
 
--- at the first mark a text goes on with it
-pub at_mark : (mark : ℕ) (text : List ℕ) (i : ℕ) → i < length text → get_or text i 0 ≡ mark → goes_on mark (drop i text) ≡ true
-at_mark mark text i inside is = rw (drop-cons text i 0 inside) (eq-eqb (get_or text i 0) mark is)
+-- a text is parted at its first mark, which is found by its place
+pub parted : (mark : ℕ) (text : List ℕ) (i : ℕ) → i < length text → Nowhere (Passes (is_byte mark) text) 0 i → Passes (is_byte mark) text i → (take i text ≡ before mark text) × (drop i text ≡ onwards mark text)
+parted mark [] i inside none is = absurd (omega arith)
+parted mark (b ∷ text) zero inside none is = rw is (refl, refl)
+parted mark (b ∷ text) (suc i) inside none is =
+    let other : (b == mark) ≡ false = is_false (b == mark) (none 0 (omega arith) (omega arith)) in
+    let parts = parted mark text i (omega arith) (λ k low high. none (suc k) (omega arith) (omega arith)) is in
+    rw other (ap (λ t. b ∷ t) parts.0, parts.1)
 
 -- a text without a mark is all before it
-pub unparted : (mark : ℕ) (text : List ℕ) → list_all (is_other mark) text ≡ true → (text ≡ before mark text) × ([] ≡ onwards mark text)
-unparted mark text others =
-    let other : is_other mark mark ≡ false = rw (eq-eqb mark mark refl) refl in (
-      sym (ap (before mark) (sym (append-nil text)) ∙ before_mark mark (is_other mark) text [] other others refl),
-      sym (ap (onwards mark) (sym (append-nil text)) ∙ onwards_mark mark (is_other mark) text [] other others refl),
-    )
+pub unparted : (mark : ℕ) (text : List ℕ) → Nowhere (Passes (is_byte mark) text) 0 (length text) → (text ≡ before mark text) × ([] ≡ onwards mark text)
+unparted mark [] none = (refl, refl)
+unparted mark (b ∷ text) none =
+    let other : (b == mark) ≡ false = is_false (b == mark) (none 0 (omega arith) (omega arith)) in
+    let parts = unparted mark text (λ k low high. none (suc k) (omega arith) (omega arith)) in
+    rw other (ap (λ t. b ∷ t) parts.0, parts.1)
 
 -- a field of visible bytes is read by itself
 pub field_back : {A : Type 0} (read : List ℕ → Option A) (text rest : List ℕ) (x : A) → are_visible text ≡ true → goes_on 32 rest ≡ true → read text ≡ Some x → field_by read (32 ∷ (text ++ rest)) ≡ Some (x, rest)
@@ -133,23 +134,23 @@ piece_back bytes are some =
 
 -- ---- texts of UTF-8
 
-abbrev is_byte : ℕ → Bool
-is_byte b = nat_lt b 256
+abbrev is_octet : ℕ → Bool
+is_octet b = nat_lt b 256
 
-encode_bytes : (c : ℕ) → scalar c ≡ true → list_all is_byte (encode c) ≡ true
+encode_bytes : (c : ℕ) → scalar c ≡ true → list_all is_octet (encode c) ≡ true
 unfolding encode
 encode_bytes c is = grind (arith, nat_tests)
 
-encodes_bytes : (cs : List ℕ) → scalars cs ≡ true → list_all is_byte (encodes cs) ≡ true
+encodes_bytes : (cs : List ℕ) → scalars cs ≡ true → list_all is_octet (encodes cs) ≡ true
 encodes_bytes [] are = refl
 encodes_bytes (c ∷ cs) are =
     let parts = and_parts (scalar c) (scalars cs) are in
-    list_all-append is_byte (encode c) (encodes cs) ∙ rw (encode_bytes c parts.0, encodes_bytes cs parts.1) refl
+    list_all-append is_octet (encode c) (encodes cs) ∙ rw (encode_bytes c parts.0, encodes_bytes cs parts.1) refl
 
-are_bytes : (text : List ℕ) → list_all is_byte text ≡ true → IsBytes text
+are_bytes : (text : List ℕ) → list_all is_octet text ≡ true → IsBytes text
 are_bytes [] all i = omega arith
-are_bytes (b ∷ text) all zero = let test = (and_parts (is_byte b) (list_all is_byte text) all).0 in grind (arith, nat_tests)
-are_bytes (b ∷ text) all (suc i) = are_bytes text (and_parts (is_byte b) (list_all is_byte text) all).1 i
+are_bytes (b ∷ text) all zero = let test = (and_parts (is_octet b) (list_all is_octet text) all).0 in grind (arith, nat_tests)
+are_bytes (b ∷ text) all (suc i) = are_bytes text (and_parts (is_octet b) (list_all is_octet text) all).1 i
 
 pub text_bytes : (text : List ℕ) → IsUtf8 text → IsBytes text
 text_bytes text valid = are_bytes text (rw valid.1.1 at (encodes_bytes valid.0 valid.1.0))

@@ -20,10 +20,6 @@ use Rattle.history_entry.specs.RuleText.{rule_text}
 use Rattle.history_entry.specs.declared.rule.Rule.{Rule}
 use Rattle.history_entry.specs.declared.rule.Rule.TheVariants.{K1, K2, K3, K4, K5, K6, K7, K8, K9, K10, G1, G2, G3, M1, M2, N1, N2, N3, N4, N5, N6, N7, N8, N9, F1, L1, L2, S1, S2, S3, S4, A1, A2, A3, A4, A5, B1, B2, B3, B4, B5, B6, B7, B8}
 
--- another byte than the mark
-abbrev pub is_other : ℕ → ℕ → Bool
-is_other mark b = not (b == mark)
-
 -- what stands before the first mark
 abbrev pub before : ℕ → List ℕ → List ℕ
 before mark [] = []

@@ -9,6 +9,7 @@ ghost use Rattle.entry_reading.specs.Fields as fields;
 use crate::stop::EntryStop;
 use decimal_text::decimal_number;
 use history_entry::PieceBytes;
+use memchr::memchr;
 use page_origin::{HostText, UrlText};
 use std::alloc::Global;
 
@@ -23,12 +24,10 @@ pub fn around(text: &[u8], mark: u8) -> (&[u8], &[u8])
     ensures before { result.0.now ≡ fields.before mark text.now }
     ensures onwards { result.1.now ≡ fields.onwards mark text.now }
 {
-    for (i, byte) in text.iter().enumerate() {
-        if *byte == mark {
-            return text.split_at(i);
-        }
+    match memchr(mark, text) {
+        Some(end) => text.split_at(end),
+        None => (text, &[]),
     }
-    (text, &[])
 }
 
 /// What stands behind a mark at the front.

@@ -1,2 +1,3 @@
+pub mod FirstMark
 pub mod FirstMember
 pub mod Joining

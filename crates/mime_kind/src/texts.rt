@@ -5,6 +5,8 @@ ghost use Rattle.std.specs.Char.{to_ascii_lowercase};
 ghost use Rattle.mime_kind.specs.FieldText.{is_blank};
 ghost use Rattle.mime_kind.specs.Texts.{without_front_blanks, stripped, before, after, is_same, ends_same};
 
+use memchr::memchr;
+
 /// A space or a tab.
 pub fn is_blank(byte: u8) -> bool
     ensures { result ≡ is_blank byte }
@@ -49,26 +51,20 @@ pub fn stripped(text: &[u8]) -> &[u8]
 pub fn before(text: &[u8], mark: u8) -> &[u8]
     ensures { result.now ≡ before mark text.now }
 {
-    for (i, byte) in text.iter().enumerate() {
-        if *byte == mark {
-            return &text[..i];
-        }
+    match memchr(mark, text) {
+        Some(end) => &text[..end],
+        None => text,
     }
-    text
 }
 
 /// The part after the first mark, or nothing.
 pub fn after(text: &[u8], mark: u8) -> &[u8]
     ensures { result.now ≡ after mark text.now }
 {
-    let mut rest = text;
-    while let [byte, more @ ..] = rest {
-        if *byte == mark {
-            return more;
-        }
-        rest = more;
+    match memchr(mark, text) {
+        Some(end) => &text[end + 1..],
+        None => &[],
     }
-    &[]
 }
 
 /// Whether the texts are equal without regard to ASCII case.

@@ -1,8 +1,8 @@
-//! Scripts, and what a history means.
+//! Scripts, the pieces of a body, and the table of verdicts.
 //!
-//! A script names start pages and resources, whose documents are lists of actions. The facts of a history are
-//! definitions over the list of its entries, in `specs/`: filters and last matches, each looked up in that one list. This
-//! crate also gives out again the types of messages and entries, and those of URLs, sites and origins.
+//! A script names start pages and resources, whose documents are lists of actions. Its values keep the limits of the format.
+//! What a history of it means is said in `history_rules`. This crate also gives out again the types of messages and entries,
+//! and those of URLs, sites and origins.
 #![tactic(auto)]
 
 mod action;
