@@ -7,7 +7,7 @@ use Rattle.std.specs.Char.{is_ascii_digit}
 use Rattle.std.specs.Str.Parse.{digits_value}
 use Rattle.std.proofs.lemmas.Bool.{and_from, and_parts, eqb-true, false≢true}
 use Rattle.std.proofs.lemmas.Bool.Decides.{nat_tests}
-use Rattle.decimal_text.specs.Numbers.{decimal_number, is_numeral}
+use Rattle.decimal_text.specs.Numbers.{decimal_number, is_numeral, number_below}
 use Rattle.memchr.specs.Find.{Nowhere, Passes, is_byte}
 use Rattle.std.proofs.Math.Seq.{drop-cons, take-length}
 use Rattle.std.proofs.lemmas.List.{length-drop, take-append-drop}
@@ -49,7 +49,7 @@ some_when true m n is = refl
 some_when false m n is = absurd cc
 
 pub number_digits : (text : List ℕ) (n : ℕ) → decimal_number text ≡ Some n → list_all is_no_feed text ≡ true
-unfolding decimal_number
+unfolding decimal_number number_below
 number_digits text n is =
     let test = some_when (is_numeral text && nat_lt (digits_value 10 text) (2 ^ 32)) (digits_value 10 text) n is in
     no_feed_digits text (is_numeral_digits text (and_parts (is_numeral text) (nat_lt (digits_value 10 text) (2 ^ 32)) test).0)

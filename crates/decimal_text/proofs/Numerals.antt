@@ -96,7 +96,7 @@ decimal_is_numeral n small =
 
 -- a number is read back from its text
 pub number_back : (n : ℕ) → n < 2 ^ 32 → decimal_number (decimal n) ≡ Some n
-unfolding decimal_number
+unfolding decimal_number number_below
 number_back n small =
     let value : digits_value 10 (decimal n) ≡ n = digits_value-decimal own n (omega arith) in
     let test : nat_lt n (2 ^ 32) ≡ true = grind (arith, nat_tests) in

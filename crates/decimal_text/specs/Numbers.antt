@@ -18,4 +18,4 @@ long_decimal_number text = number_below (2 ^ 64) text
 
 -- the number below 2^32 that a text writes
 unfoldable pub decimal_number : List ℕ → Option ℕ
-decimal_number text = if is_numeral text && nat_lt (digits_value 10 text) (2 ^ 32) then Some (digits_value 10 text) else None
+decimal_number text = number_below (2 ^ 32) text

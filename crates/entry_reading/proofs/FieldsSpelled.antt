@@ -17,7 +17,7 @@ use Rattle.call_answers.specs.Chains.{◌>>=◌}
 use Rattle.hex.specs.Hex.{decode_of, decode_pairs, digit_or_error, encode_lower, encode_with, hex_digit_value, lower_digits, ◌>>=◌ as hex_bind}
 use Rattle.hex.specs.declared.error.FromHexError.{FromHexError}
 use Rattle.hex.specs.declared.error.FromHexError.TheVariants.{OddLength}
-use Rattle.decimal_text.specs.Numbers.{decimal_number, is_numeral}
+use Rattle.decimal_text.specs.Numbers.{decimal_number, is_numeral, number_below}
 use Rattle.entry_text.specs.Lines.{field, hex_text, number as number_text}
 use Rattle.entry_reading.specs.Fields.{before, bytes_of, field_by, is_lower_digit, next_field, onwards, past, past_arrow, piece_of, text_of, url_of, whole}
 use Rattle.page_origin.specs.UrlText.{is_url_spelling}
@@ -130,7 +130,7 @@ numeral_is text numeral small =
     decimal-digits_value own text some.1 long lead small
 
 pub decimal_is : (text : List ℕ) (n : ℕ) → decimal_number text ≡ Some n → decimal n ≡ text
-unfolding decimal_number
+unfolding decimal_number number_below
 decimal_is text n is =
     let test = passed (is_numeral text && nat_lt (digits_value 10 text) (2 ^ 32)) (Some (digits_value 10 text)) n is in
     let parts = and_parts (is_numeral text) (nat_lt (digits_value 10 text) (2 ^ 32)) test.0 in

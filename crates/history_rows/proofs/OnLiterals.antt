@@ -24,7 +24,7 @@ use Rattle.entry_text.specs.Lines.{body_text, entry_text, hex_text, hop_text, ho
 use Rattle.history_rules.specs.Orders.{had_order, order_of, was_answered, was_ordered}
 use Rattle.script_model.specs.ScriptData.{find_resource}
 use Rattle.script_model.specs.Verdicts.{body_verdict, bytes_verdict, head_verdict, is_left_out, is_same_site_chain, verdict}
-use Rattle.decimal_text.specs.Numbers.{decimal_number, is_numeral}
+use Rattle.decimal_text.specs.Numbers.{decimal_number, is_numeral, number_below}
 use Rattle.history_rules.specs.Choice.{choice, may_start, process_in_group, process_of_site, warm_process}
 use Rattle.history_rules.specs.Documents.{actions_done, document_in, document_url, hosted, is_current, is_kept, is_present, last_in, may_navigate, origin_of, process_of}
 use Rattle.history_rules.specs.Frames.{frame_maker, frame_of, group_of, is_sandboxed, lineage, navigation_maker, opener_of, top_of, was_made}
@@ -49,5 +49,5 @@ use Rattle.history_laws.specs.Received.{received}
 use Rattle.history_laws.specs.Secret.{swap_body, was_never_of}
 
 unfoldable pub history_on_literals : ⊤
-unfolding process_commits was_answered process_in_group process_of_site warm_process may_start choice last_in is_kept is_present document_in is_current hosted process_of order_of origin_of document_url actions_done may_navigate was_made frame_maker navigation_maker frame_of lineage top_of opener_of group_of is_sandboxed posts_to inbox judge_navigate judge_add_frame judge_remove_frame judge_open_page judge_fetch judge_post judge_ask judge_commit judge first_url chain_of began is_replaced is_newest was_ordered had_order is_committed is_pending is_waiting initiator_of base_origin commit_origin pieces seen_body is_dead lock_of is_locked is_locked_to is_warm is_live standing started live_count site_number hop_url request_maker request_origin request_chain head_of has_head has_end delivered is_live_request has_live_request is_read_chain cors_fails response_verdict request_verdict accepted_requests resource_of_document added_by sight_of act_of next_act store_request value_of key_count answer_request store_rule request_hop head_next piece_next redirect_end body_end end_how end_next open_next warm_next navigation_hop order_with chosen_order order_next end_rule end_navigation_next said_in said_next crash_next commit_by commit_next local_what local_in local_next exit_next next_of hop_nexts order_nexts end_navigation_nexts said_nexts crash_nexts commit_in_process commit_nexts local_nexts head_nexts piece_nexts end_nexts exit_nexts nexts is_over is_allowed is_awaited touches received swap_body was_never_of is_settled found_in may_be_found may_be_html may_be_json may_be_xml may_have_prefix holds_behind_blanks holds_within is_html is_lower_html is_json has_prefix is_xml compared_text cors body_text entry_text hex_text hop_text how_text line_of message_text origin_line reply_text src_text target_text what_text encode_with lines_of text_of is_token_byte kind_of nosniff resource_policy tuple_of admitted class_of key_of parts_of read_url url_text fits_last registrable suffix_label_count find_resource body_verdict bytes_verdict head_verdict is_left_out is_same_site_chain verdict is_dotted_quad is_ip_address is_octet decimal_number is_numeral is_isolated site_host site_of_tuple url_on_literals
+unfolding process_commits was_answered process_in_group process_of_site warm_process may_start choice last_in is_kept is_present document_in is_current hosted process_of order_of origin_of document_url actions_done may_navigate was_made frame_maker navigation_maker frame_of lineage top_of opener_of group_of is_sandboxed posts_to inbox judge_navigate judge_add_frame judge_remove_frame judge_open_page judge_fetch judge_post judge_ask judge_commit judge first_url chain_of began is_replaced is_newest was_ordered had_order is_committed is_pending is_waiting initiator_of base_origin commit_origin pieces seen_body is_dead lock_of is_locked is_locked_to is_warm is_live standing started live_count site_number hop_url request_maker request_origin request_chain head_of has_head has_end delivered is_live_request has_live_request is_read_chain cors_fails response_verdict request_verdict accepted_requests resource_of_document added_by sight_of act_of next_act store_request value_of key_count answer_request store_rule request_hop head_next piece_next redirect_end body_end end_how end_next open_next warm_next navigation_hop order_with chosen_order order_next end_rule end_navigation_next said_in said_next crash_next commit_by commit_next local_what local_in local_next exit_next next_of hop_nexts order_nexts end_navigation_nexts said_nexts crash_nexts commit_in_process commit_nexts local_nexts head_nexts piece_nexts end_nexts exit_nexts nexts is_over is_allowed is_awaited touches received swap_body was_never_of is_settled found_in may_be_found may_be_html may_be_json may_be_xml may_have_prefix holds_behind_blanks holds_within is_html is_lower_html is_json has_prefix is_xml compared_text cors body_text entry_text hex_text hop_text how_text line_of message_text origin_line reply_text src_text target_text what_text encode_with lines_of text_of is_token_byte kind_of nosniff resource_policy tuple_of admitted class_of key_of parts_of read_url url_text fits_last registrable suffix_label_count find_resource body_verdict bytes_verdict head_verdict is_left_out is_same_site_chain verdict is_dotted_quad is_ip_address is_octet decimal_number number_below is_numeral is_isolated site_host site_of_tuple url_on_literals
 history_on_literals = tt

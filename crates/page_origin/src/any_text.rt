@@ -4,7 +4,7 @@ ghost use Rattle.std.specs.Prelude.{◌≡◌, IfOk, IfSome, None, Ok, true};
 ghost use Rattle.url.specs.Parser.{parse_url};
 ghost use Rattle.page_origin.specs.HostSpelling.{is_host};
 ghost use Rattle.page_origin.specs.Origins as origins;
-ghost use Rattle.page_origin.specs.PageUrls.{Gives, class_of, class_of_parts, join_url_of, parts_of, url_text};
+ghost use Rattle.page_origin.specs.PageUrls.{Gives, class_of, class_of_parts, join_url_of, key_of, parts_of, url_text};
 
 use crate::class::UrlClass;
 use crate::host::HostText;
@@ -72,6 +72,16 @@ pub fn tuple_of_text(alloc: Global, text: &str) -> Result<TupleOrigin, NoMemory>
 {
     let url = parsed(alloc, text)?.unwrap();
     tuple_of_parsed(alloc, &url)
+}
+
+/// A URL's text without its fragment.
+pub fn key_of_text(text: &str) -> &str
+    ensures { result.now ≡ key_of text.now }
+{
+    match text.split_once('#') {
+        Some((key, _)) => key,
+        None => text,
+    }
 }
 
 /// The URL that a text names against the URL with another text; where that is no URL, without a base.

@@ -17,7 +17,7 @@ mod text_bytes;
 mod tuple;
 mod url_text;
 
-pub use any_text::{class_of_text, join_text, tuple_of_text};
+pub use any_text::{class_of_text, join_text, key_of_text, tuple_of_text};
 pub use call_answers::NoMemory;
 pub use class::UrlClass;
 pub use host::HostText;

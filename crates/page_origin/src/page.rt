@@ -6,6 +6,7 @@ ghost use Rattle.page_origin.specs.UrlText.{is_printable, is_url_spelling};
 ghost use Rattle.page_origin.specs.PageUrls.{Gives, page_url_of, join_url_of, read_url, url_text, admitted, key_of, class_of};
 ghost use Rattle.page_origin.specs.Origins as origins;
 
+use crate::any_text::key_of_text;
 use crate::class::UrlClass;
 use crate::parts::{class_of_url, host_of_url, refusal, scheme_of_url, text_of_url};
 use crate::site::Scheme;
@@ -133,10 +134,7 @@ impl PageUrl {
     pub fn key(&self) -> &str
         ensures { result.now ≡ key_of self.now }
     {
-        match self.text().split_once('#') {
-            Some((key, _)) => key,
-            None => self.text(),
-        }
+        key_of_text(self.text())
     }
 
     /// What the URL leads to.

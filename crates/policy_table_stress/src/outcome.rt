@@ -1,4 +1,5 @@
 use crate::findings::Findings;
+use call_answers::NoMemory;
 use std::fmt;
 
 /// What became of a line.
@@ -32,7 +33,7 @@ impl fmt::Display for Outcome {
         match self {
             Outcome::Ran(entries, found) => write!(f, "{entries} entries, {found}"),
             Outcome::Looked(looks) => write!(f, "{looks} looks"),
-            Outcome::NoMemory => write!(f, "no memory"),
+            Outcome::NoMemory => write!(f, "{NoMemory}"),
         }
     }
 }

@@ -1,6 +1,5 @@
 ghost use Rattle.std.specs.Prelude.{◌≡◌, IfOk};
 ghost use Rattle.std.specs.Option.{option_copied};
-ghost use Rattle.page_origin.specs.PageUrls.{key_of};
 ghost use Rattle.script_model.specs.Pieces as pieces;
 ghost use Rattle.script_model.specs.ResourceData.{fails_at_once};
 ghost use Rattle.history_rules.specs.Redirects as redirects;
@@ -8,6 +7,7 @@ ghost use Rattle.history_rules.specs.Responses.{resource_at};
 ghost use Rattle.request_facts.specs.Views.{response_view};
 
 use mime_kind::FieldText;
+use page_origin::key_of_text;
 use script_model::{NoMemory, Pieces, Resource, Script, find};
 use std::alloc::Global;
 
@@ -26,23 +26,13 @@ impl Clone for Response<'_> {
 
 impl Copy for Response<'_> {}
 
-/// A URL's text without its fragment.
-pub fn key_of(url: &str) -> &str
-    ensures { result.now ≡ key_of url.now }
-{
-    match url.split_once('#') {
-        Some((key, _)) => key,
-        None => url,
-    }
-}
-
 /// The response of a URL.
 pub fn resource_at<'a>(script: &'a Script, url: &'a str) -> Response<'a>
     ensures { response_view result ≡ resource_at script.now url.now }
 {
     Response {
         url,
-        resource: find(script, key_of(url)),
+        resource: find(script, key_of_text(url)),
     }
 }
 

@@ -5,10 +5,9 @@ ghost use Rattle.std.specs.Option.{option_map_or};
 ghost use Rattle.history_rules.specs.Frames.{adder_of};
 ghost use Rattle.history_rules.specs.Sights as sights;
 
-use crate::response::key_of;
 use entry_facts::sights::body_srcdoc;
 use history_rules::{FrameList, Sight};
-use page_origin::class_of_text;
+use page_origin::{class_of_text, key_of_text};
 use plain_facts::PlainFacts;
 use plain_facts::documents::{document_url, origin_of};
 use plain_facts::numbers::{entry_number, optional_number};
@@ -29,7 +28,7 @@ fn srcdoc_of(facts: &PlainFacts<'_>, frame: u64) -> Option<u64>
 fn resource_place(script: &Script, url: &str) -> Option<usize>
     ensures { result ≡ sights.resource_number script.now url.now }
 {
-    let key = key_of(url);
+    let key = key_of_text(url);
     script
         .resources
         .as_slice()

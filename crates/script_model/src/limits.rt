@@ -27,10 +27,7 @@ pub const MAX_HEADER_VALUE: usize = 1024;
 /// Bytes of the body of a resource.
 pub const MAX_BODY: usize = 16_384;
 
-/// Pieces into which a body is cut.
-pub const MAX_PIECES: usize = 64;
-
-/// Cuts of a body, one less than its pieces.
+/// Cuts of a body, which comes in one piece more at most.
 pub const MAX_CUTS: usize = 63;
 
 /// Actions of a resource.

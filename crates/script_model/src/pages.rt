@@ -25,12 +25,6 @@ impl PageUrls {
         PageUrls { urls }
     }
 
-    pub fn into_vec(self) -> Vec<PageUrl>
-        ensures { result.items ≡ self }
-    {
-        self.urls
-    }
-
     pub fn as_slice(&self) -> &[PageUrl]
         ensures { result.now ≡ self.now }
     {

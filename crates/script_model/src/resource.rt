@@ -32,12 +32,6 @@ impl Cuts {
         Cuts { cuts }
     }
 
-    pub fn into_vec(self) -> Vec<u32>
-        ensures { result.items ≡ self }
-    {
-        self.cuts
-    }
-
     pub fn as_slice(&self) -> &[u32]
         ensures { result.now ≡ self.now }
     {
@@ -65,12 +59,6 @@ impl Actions {
         ensures { result ≡ actions.items }
     {
         Actions { actions }
-    }
-
-    pub fn into_vec(self) -> Vec<Action>
-        ensures { result.items ≡ self }
-    {
-        self.actions
     }
 
     pub fn as_slice(&self) -> &[Action]
@@ -154,12 +142,6 @@ impl Resources {
         ensures { result ≡ resources.items }
     {
         Resources { resources }
-    }
-
-    pub fn into_vec(self) -> Vec<Resource>
-        ensures { result.items ≡ self }
-    {
-        self.resources
     }
 
     pub fn as_slice(&self) -> &[Resource]

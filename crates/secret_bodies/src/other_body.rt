@@ -4,22 +4,12 @@ ghost use Rattle.std.specs.Prelude.{◌≡◌, ◌<◌, ◌++◌, ◌∷◌, [],
 ghost use Rattle.std.specs.Option.{option_map_or};
 ghost use Rattle.history_laws.specs.Secret as secret;
 ghost use Rattle.history_rules.specs.Responses.{resource_at};
-ghost use Rattle.page_origin.specs.PageUrls as urls;
 ghost use Rattle.script_model.specs.CutPlaces.{IsCutFrom, cuts_below};
 ghost use Rattle.script_model.specs.Pieces.{cut_at, pieces};
 
+use page_origin::key_of_text;
 use script_model::{NoMemory, PieceBytes, Resource, Script, find};
 use std::alloc::Global;
-
-/// A URL's text without its fragment.
-pub fn key_of(url: &str) -> &str
-    ensures { result.now ≡ urls.key_of url.now }
-{
-    match url.split_once('#') {
-        Some((key, _)) => key,
-        None => url,
-    }
-}
 
 /// The bytes of a body that a wire carries, where it fails after so many of them.
 fn sent_of(body: &[u8], fail_after: Option<u32>) -> &[u8]
@@ -104,7 +94,7 @@ pub fn other_pieces(
 ) -> Result<Vec<PieceBytes>, NoMemory>
     ensures { IfOk result (λ parts. parts.items ≡ pieces (resource_at (secret.with_body script.now key.now body.now) key.now)) }
 {
-    match find(script, key_of(key)) {
+    match find(script, key_of_text(key)) {
         Some(resource) => pieces_with(alloc, resource, body_at(resource, key, body)),
         None => Ok(Vec::new(alloc)),
     }

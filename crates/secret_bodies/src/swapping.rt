@@ -4,8 +4,9 @@ ghost use Rattle.std.specs.Prelude.{◌≡◌, if◌then◌else◌, IfOk, IfSome
 ghost use Rattle.history_entry.specs.declared.entry.Entry.TheVariants as entries;
 ghost use Rattle.history_laws.specs.Secret as secret;
 
-use crate::other_body::{key_of, other_pieces};
+use crate::other_body::other_pieces;
 use history_entries::History;
+use page_origin::key_of_text;
 use request_facts::requests::request_chain;
 use script_model::{Entry, NoMemory, PieceBytes, Script};
 use std::alloc::Global;
@@ -22,7 +23,7 @@ fn has_key(alloc: Global, history: &History, key: &str, request: u32) -> Result<
     ensures { IfOk result (λ has. has ≡ secret.has_key history.now key.now request) }
 {
     let chain = request_chain(alloc, history.entries(), u64::from(request))?;
-    Ok(key_of(chain.last()) == key)
+    Ok(key_of_text(chain.last()) == key)
 }
 
 /// Whether a request's last URL has the key, as was found for the request that was asked before, or as its chain says.

@@ -1,5 +1,5 @@
 use crate::{SiteRules, same_site, site_of, site_of_origin};
-use page_origin::{Origin, Scheme, Site};
+use page_origin::{HostText, Origin, Scheme, Site, TupleOrigin};
 use public_suffix::Rules;
 use std::alloc::Global;
 use std::test::Fail;
@@ -42,6 +42,36 @@ fn sites_of_urls(rt: HostRuntime) -> Result<(), Fail> {
         let url = web_url(rt.alloc(), text)?;
         let site = site_of(rt.alloc(), &rules, &url)?;
         assert!(rt; is_site(&site, *scheme, host, None), "{text}");
+    }
+    Ok(())
+}
+
+/// A host of numbers that an origin of a history may have, and its site's host. An IP address is four numbers from 0 to 255.
+const NUMBER_HOSTS: &[(&str, &str)] = &[
+    ("1.2.3.255", "1.2.3.255"),
+    ("0.0.0.0", "0.0.0.0"),
+    ("1.2.3.256", "3.256"),
+    ("256.1.1.1", "1.1"),
+    ("1.2.3.04", "3.04"),
+    ("1.2.3", "2.3"),
+    ("1.2.3.4.5", "4.5"),
+];
+
+fn origin_of_host(alloc: Global, host: &str) -> Result<Origin, Fail> {
+    Ok(Origin::Tuple(TupleOrigin {
+        scheme: Scheme::Https,
+        host: HostText::from_bytes(alloc, host.as_bytes())?,
+        port: 443,
+    }))
+}
+
+#[test]
+fn sites_of_number_hosts(rt: HostRuntime) -> Result<(), Fail> {
+    let rules = site_rules(rt.alloc(), b"", &[])?;
+    for (text, host) in NUMBER_HOSTS {
+        let origin = origin_of_host(rt.alloc(), text)?;
+        let site = site_of_origin(rt.alloc(), &rules, &origin)?;
+        assert!(rt; is_site(&site, Scheme::Https, host, None), "{text}");
     }
     Ok(())
 }

@@ -92,6 +92,7 @@ const MESSAGES: &[(&str, &str)] = &[
     (r#"{"is":"page","url":"u","document":0}"#, "0 as own page u"),
     (r#"{"is":"page","url":"u"}"#, "own as own page u"),
     (r#"{"is":"page","url":1,"document":-1}"#, "X2 @/document"),
+    (r#"{"is":"page","url":1}"#, "X2 @/url"),
     (r#"{"is":"fetch"}"#, "X2 @/url"),
     (r#"{"is":"fetch","mode":"cors"}"#, "X2 @/url"),
     (r#"{"is":"fetch","url":"x"}"#, "X2 @/mode"),
@@ -115,6 +116,10 @@ const MESSAGES: &[(&str, &str)] = &[
     ),
     (r#"{"is":"post"}"#, "X2 @/frame"),
     (r#"{"is":"post","target":"*","text":""}"#, "X2 @/frame"),
+    (
+        r#"{"is":"post","frame":4294967296,"target":"*","text":""}"#,
+        "X6 @/frame",
+    ),
     (r#"{"is":"post","frame":0}"#, "X2 @/target"),
     (r#"{"is":"post","frame":0,"target":"*","x":1}"#, "X2 @/text"),
     (

@@ -23,7 +23,6 @@ const OF_THE_FORMAT: &[(usize, usize)] = &[
     (limits::MAX_HEADER_NAME, 64),
     (limits::MAX_HEADER_VALUE, 1024),
     (limits::MAX_BODY, 16_384),
-    (limits::MAX_PIECES, 64),
     (limits::MAX_CUTS, 63),
     (limits::MAX_ACTIONS, 64),
     (limits::MAX_URL_INPUT, 4096),

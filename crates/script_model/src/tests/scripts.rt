@@ -4,9 +4,7 @@ ghost use Rattle.std.specs.Prelude.{◌≡◌, IfOk};
 ghost use Rattle.script_model.specs.ResourceData.{empty_resource};
 
 use crate::tests::site_rules;
-use crate::{
-    Action, Actions, Cuts, PageUrls, Policy, Resource, Resources, Script, UrlClass, find, page_url,
-};
+use crate::{PageUrls, Policy, Resource, Resources, Script, UrlClass, find, page_url};
 use std::alloc::Global;
 use std::test::Fail;
 use test_support::web_url;
@@ -87,38 +85,5 @@ fn resources_by_their_keys(rt: HostRuntime) -> Result<(), Fail> {
     for (url, key, want) in KEYS {
         assert!(rt; is_found(rt.alloc(), url, key)? == *want, "{url} {key}");
     }
-    Ok(())
-}
-
-/// How many pages a list of one gives back.
-fn pages_back(alloc: Global) -> Result<usize, Fail> {
-    let pages = vec![in alloc; web_url(alloc, "https://a.com/")?]?;
-    Ok(PageUrls::from_vec(pages).into_vec().len())
-}
-
-/// How many resources a list of one gives back.
-fn resources_back(alloc: Global) -> Result<usize, Fail> {
-    let resources = vec![in alloc; resource(alloc, "https://a.com/")?]?;
-    Ok(Resources::from_vec(resources).into_vec().len())
-}
-
-/// How many actions a list of one gives back.
-fn actions_back(alloc: Global) -> Result<usize, Fail> {
-    let actions = vec![in alloc; Action::Wait]?;
-    Ok(Actions::from_vec(actions).into_vec().len())
-}
-
-/// How many cuts a list of one gives back.
-fn cuts_back(alloc: Global) -> Result<usize, Fail> {
-    let cuts = vec![in alloc; 3]?;
-    Ok(Cuts::from_vec(cuts).into_vec().len())
-}
-
-#[test]
-fn lists_give_back_what_they_were_made_of(rt: HostRuntime) -> Result<(), Fail> {
-    assert_eq!(rt; pages_back(rt.alloc())?, 1);
-    assert_eq!(rt; resources_back(rt.alloc())?, 1);
-    assert_eq!(rt; actions_back(rt.alloc())?, 1);
-    assert_eq!(rt; cuts_back(rt.alloc())?, 1);
     Ok(())
 }

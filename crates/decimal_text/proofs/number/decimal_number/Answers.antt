@@ -1,7 +1,7 @@
 use Rattle.std.proofs.Common.{Result, Ok, Err, ◌≡◌, ◌∙◌, sym, true, refl}
 use Rattle.std.specs.Prelude.{MatchResult, IsOk}
 use Rattle.std.specs.Str.Parse.{ParsesUnsigned}
-use Rattle.decimal_text.specs.Numbers.{decimal_number, is_numeral}
+use Rattle.decimal_text.specs.Numbers.{decimal_number, is_numeral, number_below}
 use Rattle.decimal_text.proofs.Numerals.{numeral_is_text, numeral_read}
 use Rattle.decimal_text.proofs.number.decimal_number.Goals as goal
 
@@ -10,7 +10,7 @@ never_an_error (Ok x) P Q is never = refl
 never_an_error (Err e) P Q is never = absurd (never e is)
 
 pub returns-then-not-is_numeral : goal.returns-then-not-is_numeral
-unfolding decimal_number
+unfolding decimal_number number_below
 returns-then-not-is_numeral c = rw (sym c.is_numeral.ensures ∙ c.if-not-is_numeral.true) refl
 
 pub unwrap-digits-requires : goal.unwrap-digits-requires
