@@ -1,8 +1,8 @@
 #!/usr/bin/env bash
 # Audits of the built program: `audit` passes the output of `one` for each golden run and example, of either version where no rule of
 # the second stands in it, and refuses each text that differs from it in one line (dropped, doubled, swapped with its neighbour, or
-# with one field changed), unless it is listed below as another legal history; and each text that is cut short, by whole lines
-# and within a line. Where python3 is missing, nothing is checked, and the status is 77. The last line is 'N passed, M failed'.
+# with one field changed), unless it is listed in audits.json as another legal history; each text whose version line is changed; each
+# text that is cut short, by whole lines and within a line; and inputs at the limit of `audit` and past it. Where python3 is missing, nothing is checked, and the status is 77. The last line is 'N passed, M failed'.
 set -u
 top=$(cd "$(dirname "${BASH_SOURCE[0]}")/.." && pwd)
 . "$top/.ci/program.sh"
@@ -16,7 +16,7 @@ if ! program_is_ready; then
   exit 1
 fi
 exec python3 - "$top" "$program" "$@" <<'PYTHON'
-import concurrent.futures, json, os, pathlib, re, subprocess, sys
+import concurrent.futures, json, os, pathlib, re, subprocess, sys, tempfile
 
 top, program = pathlib.Path(sys.argv[1]), sys.argv[2]
 listed_at = top / "tests" / "audits.json"
@@ -71,8 +71,20 @@ def changes(lines):
             yield f"line {number} field {place + 1} changed", lines[:at] + [" ".join(changed) + "\n"] + lines[at + 1 :]
 
 
+def version_lines(lines):
+    """Each text whose version line is changed, with the line that its audit must tell."""
+    yield "line 1 doubled", "".join(lines[:1] + lines), "bad line 2\n"
+    if len(lines) > 1:
+        yield "line 1 swapped with the next", "".join([lines[1], lines[0]] + lines[2:]), "bad line 2\n"
+    for field in ("historyx 2\n", "history 3\n"):
+        yield f"line 1 is {field!r}", "".join([field] + lines[1:]), "bad line 1\n"
+
+
 def cuts(lines):
-    """Each text that is cut short, with the line that its audit must tell, as far as that is known beforehand."""
+    """Each text that is cut short, with the line that its audit must tell."""
+    if len(lines) > 1:
+        yield "all is cut", "", "unfinished " + lines[1].split(" ")[0].rstrip("\n") + "\n"
+    yield "cut in line 1", lines[0][:-1], "bad line 1\n"
     for kept in range(1, len(lines)):
         yield f"cut behind line {kept}", "".join(lines[:kept]), "unfinished " + lines[kept].split(" ")[0].rstrip("\n") + "\n"
         if len(lines[kept]) > 1:
@@ -100,11 +112,24 @@ def check(run):
             legal.append(what)
         elif status != 1 or not re.fullmatch(r"(bad line|illegal line) [0-9]+\n|unfinished [a-z]+\n", line):
             wrong.append(f"{name}: {what}: status {status}, {line!r}")
-    for what, cut, told in cuts(lines):
+    for what, other_text, told in [*version_lines(lines), *cuts(lines)]:
         count += 1
-        if audit(script, cut) != (1, told):
-            wrong.append(f"{name}: {what}: {audit(script, cut)} in place of {told!r}")
+        found = audit(script, other_text)
+        if found != (1, told):
+            wrong.append(f"{name}: {what}: {found} in place of {told!r}")
     return name, wrong, count, legal
+
+
+def limits():
+    """What went wrong with inputs of the greatest length and of one byte more. Neither has a frame, and only the first is looked at."""
+    wrong = []
+    for length, status in ((536_870_912, 5), (536_870_913, 6)):
+        with tempfile.TemporaryFile() as blanks:
+            blanks.truncate(length)
+            ended = subprocess.run([program, "audit"], stdin=blanks, capture_output=True, timeout=300)
+        if (ended.returncode, ended.stdout) != (status, b""):
+            wrong.append(f"{length} bytes: status {ended.returncode} in place of {status}")
+    return wrong
 
 
 everything = list(runs())
@@ -114,7 +139,7 @@ found = {name: legal for name, _, _, legal in results if legal}
 if "--write" in sys.argv:
     listed_at.write_text(json.dumps(found, indent=2) + "\n")
 listed = json.loads(listed_at.read_text())
-failures = [failure for _, wrong, _, _ in results for failure in wrong]
+failures = [failure for _, wrong, _, _ in results for failure in wrong] + limits()
 for name in sorted(set(found) | set(listed)):
     for what in sorted(set(found.get(name, [])) ^ set(listed.get(name, []))):
         failures.append(f"{name}: {what}: {'legal, and not listed' if what in found.get(name, []) else 'listed, and not legal'}")
@@ -122,7 +147,7 @@ if not everything:
     failures.append("there is no golden run of `one`")
 for failure in failures:
     print(f"audits: {failure}")
-total = sum(count for _, _, count, _ in results)
+total = sum(count for _, _, count, _ in results) + 2
 print(f"{total - len(failures)} passed, {len(failures)} failed")
 sys.exit(1 if failures else 0)
 PYTHON

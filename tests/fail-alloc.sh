@@ -1,13 +1,14 @@
 #!/usr/bin/env bash
 # Want of memory, outside the gate: of each run below allocation 1, 2, 3 .. fails, until the run makes no more. Each time the run
 # must end with the status 7, the line `no memory` and nothing on standard output, or exactly as it ends with all its memory, where
-# it does without that allocation; its line on standard error alone may then be missing. `tests/fail-alloc.sh` takes the limit of
-# allocations a run as its word (5,000 where there is none). Where no C compiler is there, nothing is checked, and the status is 77.
-# The last line is 'N passed, M failed'.
+# it does without that allocation; its line on standard error alone may then be missing. Of `gen`, whose run takes hours, the first
+# 2,000 are tried, which all fall into the making of its script. A word is a limit of allocations a run, for a quick look: a run that
+# makes more then counts as a failure. Allocations fail by a preloaded library, since the kit's `--fail-alloc` runs what is not built.
+# Where no C compiler is there, nothing is checked, and the status is 77. The last line is 'N passed, M failed'.
 set -u
 top=$(cd "$(dirname "${BASH_SOURCE[0]}")/.." && pwd)
 . "$top/.ci/program.sh"
-limit=${1:-5000}
+limit=${1:-1000000}
 if ! command -v cc >/dev/null 2>&1; then
   echo "want of memory is NOT CHECKED: a C compiler is missing"
   exit 77
@@ -50,11 +51,31 @@ check_run() {
       echo "want of memory: $name: allocation $number: status $status"
     fi
   done
-  if [ "$number" -gt "$limit" ]; then echo "want of memory: $name: only the first $limit allocations were tried"; fi
+  if [ "$number" -gt "$limit" ]; then
+    failed=$((failed + 1))
+    echo "want of memory: $name: only the first $limit allocations were tried"
+  fi
   if [ "$number" = 1 ]; then
     failed=$((failed + 1))
     echo "want of memory: $name: no allocation was met"
   fi
+}
+
+# Checks the first allocations of a run that takes too long to be whole: each must end it, and at once.
+check_front() {
+  local name=$1 front=$2 number status
+  shift 2
+  for ((number = 1; number <= front && number <= limit; number++)); do
+    FAIL_ALLOC=$number FAIL_ALLOC_MARK=$room/mark timeout 20 env LD_PRELOAD="$room/fail_alloc.so" "$program" "$@" \
+      </dev/null >"$room/stdout" 2>"$room/stderr"
+    status=$?
+    if [ "$status" = 7 ] && [ "$(cat "$room/stderr")" = "no memory" ] && [ ! -s "$room/stdout" ]; then
+      passed=$((passed + 1))
+    else
+      failed=$((failed + 1))
+      echo "want of memory: $name: allocation $number: status $status"
+    fi
+  done
 }
 
 for script in "$top"/examples/*.json; do
@@ -68,5 +89,6 @@ done
 printf '[]' >"$room/input"
 check_run "a refused script" one
 check_run "no command" nothing
+check_front "gen 7" 2000 gen 7
 echo "$passed passed, $failed failed"
 [ "$failed" -eq 0 ]

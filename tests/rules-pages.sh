@@ -1,6 +1,6 @@
 #!/usr/bin/env bash
 # Checks docs/RULES.md and docs/rules/ against the definitions: that each file that a page names is there, and that each public
-# word of the definitions of histories, of read blocking and of services is named on some page. A file's name without a folder
+# word of the definitions of histories, of verdicts and of services is named on some page. A file's name without a folder
 # stands for one beside the last definitions that the page named with their folder. The last line is 'N passed, M failed'.
 set -u
 top=$(cd "$(dirname "${BASH_SOURCE[0]}")/.." && pwd)

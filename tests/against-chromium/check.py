@@ -17,7 +17,7 @@ import response_table
 import self_tests
 from browser import Browser, version
 from devtools import BrowserGone, CallFailed
-from differences import judge, read_differences
+from differences import judge, orphans, read_differences
 from history import NoHistory, Script, run_program
 from replay import OutOfTime, Replay
 from server import Server
@@ -143,6 +143,8 @@ def run_checks(arguments, bench, tally):
     self_tests.test_guard(tally)
     self_tests.test_list(tally)
     scripts = read_scripts()
+    for name, key in orphans(differences, {script.name for script in scripts}):
+        tally.fails(f"listed as {name}, of a script that is not there: {': '.join(key[:3])}")
     if arguments.scripts:
         scripts = [script for script in scripts if script.name in arguments.scripts]
     seen = replay_all(bench, scripts, tally)

@@ -55,6 +55,11 @@ class Outcome:
         return not self.unlisted and not self.vanished
 
 
+def orphans(differences, scripts):
+    """The listed places of scripts that are not there, which no run can show."""
+    return [(difference.name, key) for difference in differences for key in difference.shown if key[0] not in scripts]
+
+
 def judge(differences, comparisons, scripts):
     """Holds all comparisons of these scripts against the list. A listed place of another script is not asked."""
     listed = {key: difference.name for difference in differences for key in difference.shown if key[0] in scripts}

@@ -5,7 +5,7 @@ from dataclasses import dataclass
 
 import loopback
 from comparison import Comparison
-from differences import BadList, judge, read_differences
+from differences import BadList, judge, orphans, read_differences
 from history import read_line
 
 HEAD = "Inter-|   Receive\n face |bytes\n"
@@ -46,6 +46,8 @@ def test_list(tally):
             ("a listed one that vanished", good, [agrees], {"s"}, False), ("nothing differs", [], [agrees], {"s"}, True),
             ("a listed one of another script", good, [], {"t"}, True)):
         expect(tally, name, judge(listed, comparisons, scripts).is_good == wanted)
+    expect(tally, "a listed one of a script that is not there", bool(orphans(good, {"t"})))
+    expect(tally, "a listed one of a script that is there", not orphans(good, {"s", "t"}))
     for key in entry:
         bad = copy.deepcopy(entry)
         del bad[key]

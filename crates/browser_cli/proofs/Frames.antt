@@ -12,7 +12,7 @@ use Rattle.memchr.specs.Find.{Nowhere, Passes, is_byte}
 use Rattle.std.proofs.Math.Seq.{drop-cons, take-length}
 use Rattle.std.proofs.lemmas.List.{length-drop, take-append-drop}
 use Rattle.std.proofs.lemmas.List.Folds.{list_all_more}
-use Rattle.browser_cli.specs.Commands.{HasNoCut, HasNoFrame, IsCut, is_no_feed}
+use Rattle.browser_cli.specs.Commands.{HasNoCut, HasNoFrame, IsCut, is_no_feed, script_limit}
 
 -- two cuts at the first line feed are one
 pub same_cut : (a b c d : List ℕ) → list_all is_no_feed a ≡ true → list_all is_no_feed c ≡ true → a ++ 10 ∷ b ≡ c ++ 10 ∷ d → (a ≡ c) × (b ≡ d)
@@ -76,6 +76,15 @@ too_short rest number more n is all some short script text cut =
     let both : Some n ≡ Some (length script) = sym some ∙ parts.0 in
     let number_is : n ≡ length script = cc in
     let long : length more ≡ length script + length text = ap length parts.1 ∙ length-append script text in
+    absurd (omega arith)
+
+-- the first line says more than a script may have
+pub too_long : (rest number more : List ℕ) (n : ℕ) → rest ≡ number ++ 10 ∷ more → list_all is_no_feed number ≡ true → decimal_number number ≡ Some n → script_limit < n → HasNoCut rest
+too_long rest number more n is all some long script text cut =
+    let parts = cut_parts rest number more script text is all cut in
+    let both : Some n ≡ Some (length script) = sym some ∙ parts.0 in
+    let number_is : n ≡ length script = cc in
+    let fits = cut.fits in
     absurd (omega arith)
 
 -- a frame is cut behind its word

@@ -1,5 +1,5 @@
 -- The commands that the words of a command line name, and the frame of what `audit` reads. Own formats.
-use Rattle.std.specs.Prelude.{◌≡◌, ◌==◌, ◌++◌, ◌∷◌, [], if◌then◌else◌, Bool, List, None, Option, Some, bytes_eq, codes, false, length, not, option_map, true, ℕ}
+use Rattle.std.specs.Prelude.{◌≡◌, ◌≤◌, ◌==◌, ◌++◌, ◌∷◌, [], if◌then◌else◌, Bool, List, None, Option, Some, bytes_eq, codes, false, length, not, option_map, true, ℕ}
 use Rattle.decimal_text.specs.Numbers.{decimal_number, long_decimal_number}
 use Rattle.script_input.specs.Refusals.{refusal}
 use Rattle.script_input.specs.declared.refusal.Refusal.{Refusal}
@@ -27,9 +27,13 @@ reads_source One = true
 reads_source Audit = true
 reads_source (Gen number) = false
 
+-- the most bytes of a script
+abbrev pub script_limit : ℕ
+script_limit = 4194304
+
 -- the most bytes of input
 abbrev pub input_limit : Command → ℕ
-input_limit One = 4194304
+input_limit One = script_limit
 input_limit Audit = 536870912
 input_limit (Gen number) = 0
 
@@ -37,11 +41,12 @@ input_limit (Gen number) = 0
 abbrev pub is_no_feed : ℕ → Bool
 is_no_feed b = not (b == 10)
 
--- LEN and a line feed, LEN bytes of a script, and the text behind them. LEN is below 2^32, in decimal without sign and without
--- leading zeros
+-- LEN and a line feed, LEN bytes of a script, and the text behind them. LEN is a script's limit at most, in decimal without sign and
+-- without leading zeros
 pub record IsCut (rest script text : List ℕ) : Type 0 where
   pub number : List ℕ
   pub is_length : decimal_number number ≡ Some (length script)
+  pub fits : length script ≤ script_limit
   pub whole : rest ≡ number ++ 10 ∷ (script ++ text)
 
 -- what `audit` reads: the line `script LEN`, LEN bytes of a script, and the text of a history

@@ -11,14 +11,11 @@ ghost use Rattle.browser_cli.specs.declared.command.Command.{Command as CommandD
 ghost use Rattle.browser_cli.specs.declared.status.Finding.{Finding as FindingData};
 
 use crate::answers::{answer_of, status_of};
-use crate::command::{Command, command_of};
+use crate::command::{Command, SCRIPT_LIMIT, command_of};
 use crate::status::Status;
 use browser_io::{ReadStop, Sink, Source, read_all, write_all};
 use script_input::ScriptStop;
 use std::alloc::Global;
-
-/// The most bytes of a script.
-const SCRIPT_LIMIT: usize = 4_194_304;
 
 /// The most bytes of what `audit` reads.
 const AUDIT_LIMIT: usize = 536_870_912;

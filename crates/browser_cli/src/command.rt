@@ -5,6 +5,9 @@ ghost use Rattle.browser_cli.specs.Commands as commands;
 
 use decimal_text::long_decimal_number;
 
+/// The most bytes of a script, by itself and in the frame of what `audit` reads.
+pub(crate) const SCRIPT_LIMIT: usize = 4_194_304;
+
 /// What the words of a command line ask for.
 #[derive(Clone, Copy, Debug, PartialEq, Eq)]
 pub enum Command {

@@ -4,6 +4,7 @@ ghost use Rattle.std.specs.Prelude.{◌≡◌, ◌++◌, ◌∷◌, IfSome, None
 ghost use Rattle.std.specs.List.{list_all};
 ghost use Rattle.browser_cli.specs.Commands.{HasNoCut, HasNoFrame, IsCut, IsFramed, is_no_feed};
 
+use crate::command::SCRIPT_LIMIT;
 use decimal_text::decimal_number;
 use memchr::memchr;
 
@@ -16,14 +17,18 @@ fn first_line(text: &[u8]) -> Option<(&[u8], &[u8])>
     Some((&text[..end], &text[end + 1..]))
 }
 
-/// The script and the text behind the word: LEN and a line feed, LEN bytes of the script, and the text.
+/// The script and the text behind the word: LEN and a line feed, LEN bytes of the script, and the text. LEN is
+/// [`SCRIPT_LIMIT`] at most.
 fn cut(rest: &[u8]) -> Option<(&[u8], &[u8])>
     ensures some { IfSome result (λ parts. IsCut rest.now parts.0.now parts.1.now) }
     ensures none { result ≡ None → HasNoCut rest.now }
 {
     let (number, more) = first_line(rest)?;
-    let length = decimal_number(number)?;
-    more.split_at_checked(length as usize)
+    let length = decimal_number(number)? as usize;
+    if length > SCRIPT_LIMIT {
+        return None;
+    }
+    more.split_at_checked(length)
 }
 
 /// The script and the text of an input: the line `script LEN`, LEN bytes of the script, and the text behind them.

@@ -145,6 +145,31 @@ fn words_name_commands(rt: HostRuntime) {
     }
 }
 
+const PAGE_WITHOUT_TEXT: &str =
+    "script 67\n{\"start\":[\"https://a.com/\"],\"resources\":[{\"url\":\"https://a.com/\"}]}";
+
+// A page that reads an image whose resource policy keeps it from other sites, and what each policy makes of its text.
+const KEPT_BACK_TEXT: &str = "script 258
+{\"start\":[\"https://a.com/\"],\"resources\":[{\"url\":\"https://a.com/\",\"actions\":[{\"do\":\"fetch\",\"url\":\"https://b.com/x\",\"mode\":\"no-cors\"}]},{\"url\":\"https://b.com/x\",\"headers\":[[\"Content-Type\",\"image/png\"],[\"Cross-Origin-Resource-Policy\",\"same-site\"]],\"body\":\"x\"}]}open 0
+order 0 0 https://a.com https://a.com https://a.com/
+commit 0 0 https://a.com 68747470733a2f2f612e636f6d2f => ok
+said 0 0 0 0 fetch no-cors https://a.com 68747470733a2f2f622e636f6d2f78 => ok
+head 0 A4
+piece 0 0 78
+end 0 whole
+";
+
+const KEPT_BACK_TEXT_TWO: &str = "script 258
+{\"start\":[\"https://a.com/\"],\"resources\":[{\"url\":\"https://a.com/\",\"actions\":[{\"do\":\"fetch\",\"url\":\"https://b.com/x\",\"mode\":\"no-cors\"}]},{\"url\":\"https://b.com/x\",\"headers\":[[\"Content-Type\",\"image/png\"],[\"Cross-Origin-Resource-Policy\",\"same-site\"]],\"body\":\"x\"}]}history 2
+open 0
+order 0 0 https://a.com https://a.com https://a.com/
+commit 0 0 https://a.com 68747470733a2f2f612e636f6d2f => ok
+said 0 0 0 0 fetch no-cors https://a.com 68747470733a2f2f622e636f6d2f78 => ok
+head 0 A4
+piece 0 0 78
+end 0 whole
+";
+
 // What `audit` reads, with its exit status, its line on standard error, and what it writes.
 const AUDITS: &[(&str, u8, &str, &str)] = &[
     ("script 12\n{\"start\":[]}", 0, "", "legal 0\n"),
@@ -179,6 +204,10 @@ const AUDITS: &[(&str, u8, &str, &str)] = &[
         "illegal",
         "unfinished open\n",
     ),
+    (PAGE_WITHOUT_TEXT, 1, "illegal", "unfinished open\n"),
+    // The resource policy keeps a response back under the second policy alone.
+    (KEPT_BACK_TEXT, 0, "", "legal 7\n"),
+    (KEPT_BACK_TEXT_TWO, 1, "illegal", "illegal line 6\n"),
     ("", 5, "refused X8", ""),
     ("script", 5, "refused X8", ""),
     ("script 12", 5, "refused X8", ""),

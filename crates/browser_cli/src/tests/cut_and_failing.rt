@@ -42,9 +42,9 @@ fn found_of_part(alloc: Global, lines: usize, is_cut: bool) -> Result<String, Fa
     Ok(String::from_str(alloc, found)?)
 }
 
-// A part of the page's text, in a frame with the page's script.
-fn framed_part(alloc: Global, part: &[u8]) -> Result<Vec<u8>, Fail> {
-    let frame = format!(in alloc; "script {}\n{PAGE}", PAGE.len())?;
+// A part of a text, in a frame with a script.
+fn framed_part(alloc: Global, script: &str, part: &[u8]) -> Result<Vec<u8>, Fail> {
+    let frame = format!(in alloc; "script {}\n{script}", script.len())?;
     let mut input = frame.as_bytes().to_vec(alloc)?;
     input.extend_from_slice(part)?;
     Ok(input)
@@ -57,16 +57,89 @@ fn has_cut_line(part: &[u8]) -> bool {
     }
 }
 
+// An audit that passes ends with Ran, and one that does not with Illegal.
+fn is_told(rt: &impl Abort, ended: &Ended, found: &str) {
+    let is_legal = found.starts_with("legal ");
+    let wanted = if is_legal { (0, "") } else { (1, "illegal") };
+    assert_eq!(rt; ended.written.as_str(), found);
+    assert_eq!(rt; (ended.code, ended.line.as_str()), wanted);
+}
+
 #[test]
 fn each_part_of_a_text_is_told(rt: HostRuntime) -> Result<(), Fail> {
     let alloc = rt.alloc();
     for end in 0..=PAGE_TEXT.len() {
         let part = &PAGE_TEXT.as_bytes()[..end];
         let lines = part.iter().filter(|byte| **byte == b'\n').count();
-        let input = framed_part(alloc, part)?;
+        let input = framed_part(alloc, PAGE, part)?;
         let ended = run_bytes(alloc, &["audit"], &input, 8, None, None)?;
         let found = found_of_part(alloc, lines, has_cut_line(part))?;
-        assert_eq!(rt; ended.written.as_str(), found.as_str());
+        is_told(&rt, &ended, found.as_str());
+    }
+    Ok(())
+}
+
+// A page that reads an image of another site.
+const READER: &str =
+    r#"{"start":["https://a.com/"],"resources":[{"url":"https://a.com/","actions":[{"do":"fetch","url":"https://b.com/x","mode":"no-cors"}]},{"url":"https://b.com/x","headers":[["Content-Type","image/svg+xml"]],"body":"<?xml"}]}"#;
+
+// The text of its run, of version one.
+const READER_TEXT: &str = "open 0
+order 0 0 https://a.com https://a.com https://a.com/
+commit 0 0 https://a.com 68747470733a2f2f612e636f6d2f => ok
+said 0 0 0 0 fetch no-cors https://a.com 68747470733a2f2f622e636f6d2f78 => ok
+head 0 A4
+piece 0 0 3c3f786d6c
+end 0 whole
+";
+
+// What is missing behind so many whole lines of it.
+const MISSING: [&str; 8] = [
+    "unfinished open\n",
+    "unfinished order\n",
+    "unfinished commit\n",
+    "unfinished said\n",
+    "unfinished head\n",
+    "unfinished piece\n",
+    "unfinished end\n",
+    "legal 7\n",
+];
+
+#[test]
+fn each_part_of_a_readers_text_is_told(rt: HostRuntime) -> Result<(), Fail> {
+    let alloc = rt.alloc();
+    for end in 0..=READER_TEXT.len() {
+        let part = &READER_TEXT.as_bytes()[..end];
+        let lines = part.iter().filter(|byte| **byte == b'\n').count();
+        let input = framed_part(alloc, READER, part)?;
+        let ended = run_bytes(alloc, &["audit"], &input, 4096, None, None)?;
+        if has_cut_line(part) {
+            let bad = format!(in alloc; "bad line {}\n", lines.saturating_add(1))?;
+            is_told(&rt, &ended, bad.as_str());
+        } else {
+            is_told(&rt, &ended, MISSING.get(lines).copied().unwrap_or(""));
+        }
+    }
+    Ok(())
+}
+
+// A frame whose script is so many blanks.
+fn blank_script(alloc: Global, length: usize) -> Result<Vec<u8>, Fail> {
+    let frame = format!(in alloc; "script {length}\n")?;
+    let blanks = vec![in alloc; b' '; length]?;
+    let mut input = frame.as_bytes().to_vec(alloc)?;
+    input.extend_from_slice(&blanks)?;
+    Ok(input)
+}
+
+// A script's limit holds in a frame, too: blanks are no JSON, and one more of them are no frame.
+#[test]
+fn a_script_in_a_frame_has_its_limit(rt: HostRuntime) -> Result<(), Fail> {
+    for (length, line) in [(4_194_304, "refused X1"), (4_194_305, "refused X8")] {
+        let input = blank_script(rt.alloc(), length)?;
+        let ended = run_bytes(rt.alloc(), &["audit"], &input, 65_536, None, None)?;
+        assert_eq!(rt; (ended.code, ended.line.as_str()), (5, line));
+        assert_eq!(rt; ended.written.as_str(), "");
     }
     Ok(())
 }
