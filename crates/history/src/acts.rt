@@ -3,10 +3,10 @@
 ghost use Rattle.std.specs.Prelude.{◌≡◌, IfOk};
 ghost use Rattle.history_rules.specs.Sights as sights;
 
-use action_messages::act_in;
 use history_rules::Act;
 use plain_facts::PlainFacts;
 use plain_facts::documents::actions_done;
+use renderer_run::message_of;
 use request_facts::sights::sight_of;
 use script_model::NoMemory;
 use std::alloc::Global;
@@ -19,7 +19,7 @@ pub fn next_act(alloc: Global, facts: &PlainFacts<'_>, document: u64) -> Result<
     match sight_of(alloc, facts, document)? {
         Some(sight) => {
             let action = actions_done(facts.entries(), document);
-            act_in(alloc, facts.script(), &sight, action)
+            message_of(alloc, facts.script(), &sight, action)
         }
         None => Ok(Act::Done),
     }

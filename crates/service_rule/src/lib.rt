@@ -6,7 +6,7 @@
 #![tactic(auto)]
 
 pub mod limits;
-mod request;
+pub mod request;
 mod service;
 mod store;
 

@@ -1,10 +1,10 @@
 //! From the actions of a document to its messages.
 //!
 //! An action names frames as its document sees them, and says nothing of origins: what the document sees fills these in. A
-//! forged message says whatever a compromised renderer could. Each call answers exactly the definition of its name in
+//! forged message says whatever a compromised renderer could. `message_of` answers exactly the definition `act_in` of
 //! `history_rules`.
 #![tactic(auto)]
 
 mod actions;
 
-pub use actions::{act_in, act_of_action};
+pub use actions::message_of;

@@ -192,7 +192,7 @@ fn raw_act(alloc: Global, sight: &Sight, raw: &RawMessage) -> Result<Act, NoMemo
 }
 
 /// What an action comes to.
-pub fn act_of_action(alloc: Global, sight: &Sight, action: &Action) -> Result<Act, NoMemory>
+fn act_of_action(alloc: Global, sight: &Sight, action: &Action) -> Result<Act, NoMemory>
     ensures { IfOk result (λ act. act ≡ actions.act_of_action sight.now action.now) }
 {
     match action {
@@ -231,7 +231,12 @@ fn action_in<'a>(script: &'a Script, sight: &Sight, action: u64) -> Option<&'a A
 
 /// What the action of this number comes to in the sight of its document: a message, an act of the document alone, nothing
 /// where it names a frame that is not there, or the end where there is no such action.
-pub fn act_in(alloc: Global, script: &Script, sight: &Sight, action: u64) -> Result<Act, NoMemory>
+pub fn message_of(
+    alloc: Global,
+    script: &Script,
+    sight: &Sight,
+    action: u64,
+) -> Result<Act, NoMemory>
     ensures { IfOk result (λ act. act ≡ actions.act_in script.now sight.now action) }
 {
     match action_in(script, sight, action) {
