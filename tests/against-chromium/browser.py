@@ -65,7 +65,9 @@ class Browser:
         try:
             self.call("Target.setDiscoverTargets", {"discover": True}, timeout=30)
             self.call("Target.setAutoAttach", ATTACH)
-            self.internals = self.seen.contexts[self._open(INTERNALS)]
+            self.internals = self._open(INTERNALS)
+            if not self.until(lambda: self._is_loaded(self.internals, INTERNALS), 30):
+                raise CallFailed(f"{INTERNALS} did not load")
         except BaseException:
             self.close()
             raise
@@ -75,7 +77,7 @@ class Browser:
         self.seen.forget()
         for origin in origins:
             stored = {"origin": origin, "storageTypes": "local_storage"}
-            self.call("Storage.clearDataForOrigin", stored, self.internals.session)
+            self.call("Storage.clearDataForOrigin", stored, self.seen.contexts[self.internals].session)
 
     def end_script(self):
         """Closes the pages of a script, and waits until they are gone, so that no later one shares their processes."""
@@ -93,6 +95,15 @@ class Browser:
         if not self.until(lambda: target in self.seen.contexts, 10):
             raise CallFailed(f"a page of {url} did not open")
         return target
+
+    def _is_loaded(self, frame, url):
+        """Whether the frame's document is the one of this URL, and whole: a new page has an empty one before it."""
+        try:
+            at, state = self.evaluate(frame, "[location.href, document.readyState]")
+        except (CallFailed, ValueError):
+            # (the empty document went while it was asked)
+            return False
+        return at.startswith(url) and state == "complete"
 
     def _on_target(self, session):
         """Each new target waits until these were sent."""
@@ -150,7 +161,7 @@ class Browser:
 
     def frame_trees(self):
         """The frame trees of all pages with their processes, as chrome://process-internals has them."""
-        return json.loads(self.evaluate_in(self.internals, ALL_PAGES))
+        return json.loads(self.evaluate(self.internals, ALL_PAGES))
 
     def close(self):
         """Ends the browser, by a signal to its own process group where it doesn't end by itself."""

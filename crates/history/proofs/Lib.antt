@@ -3,3 +3,4 @@ pub mod Runs
 pub mod Origins
 pub mod Answered
 pub mod Crashes
+pub mod Sayings

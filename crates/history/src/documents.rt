@@ -4,8 +4,9 @@ ghost use Rattle.std.specs.Prelude.{◌≡◌, IfOk, Some};
 ghost use Rattle.std.specs.Option.{option_map};
 ghost use Rattle.entry_facts.specs.Orders.{order_view};
 ghost use Rattle.history_rules.specs.Documents.{actions_done};
-ghost use Rattle.history_rules.specs.Judgement.{judge};
 ghost use Rattle.history_rules.specs.Sights.{next_act};
+ghost use Rattle.history.specs.Sayings as sayings;
+ghost use Rattle.history.specs.Sayings.{answered};
 ghost use Rattle.history_steps.specs.MayFollow as following;
 
 use crate::acts::next_act;
@@ -23,11 +24,33 @@ use script_model::{Entry, LocalWhat, Message, NoMemory, RawUrl, Reply, ServiceRu
 use std::alloc::Global;
 
 /// Where a document acts: its process, its number and that of its action, as an entry holds them.
-#[derive(Clone, Copy)]
-struct Place {
-    process: u32,
-    document: u32,
-    action: u32,
+#[derive(Clone, Copy, Debug)]
+pub struct Place {
+    pub process: u32,
+    pub document: u32,
+    pub action: u32,
+}
+
+/// What a document says next, before it is judged.
+#[derive(Drop)]
+pub struct Saying {
+    pub place: Place,
+    pub message: Message,
+}
+
+impl Saying {
+    /// The message with its reply, as an entry.
+    pub fn answered(self, reply: Reply) -> Entry
+        ensures { result ≡ answered self reply }
+    {
+        Entry::Said(
+            self.place.process,
+            self.place.document,
+            self.place.action,
+            self.message,
+            reply,
+        )
+    }
 }
 
 /// Where a document acts next, in a process.
@@ -41,68 +64,75 @@ fn next_place(entries: &[Entry], process: u64, document: u64) -> Result<Place, N
     })
 }
 
-/// A message and its reply, as an entry.
-fn said_entry(place: Place, message: Message, reply: Reply) -> Entry
-    ensures { result ≡ Entry.Said place.process place.document place.action message reply }
-{
-    Entry::Said(place.process, place.document, place.action, message, reply)
-}
-
-/// A message with its judgement.
-fn said<R: ServiceRule>(
-    alloc: Global,
-    services: &R,
-    facts: &PlainFacts<'_>,
-    process: u64,
-    document: u64,
-    message: Message,
-) -> Result<Entry, NoMemory>
-    ensures { IfOk result (λ entry. entry ≡ Entry.Said process document (actions_done facts.now.entries document) message (judge R.rule facts.now.script facts.now.entries process message)) }
-{
-    let place = next_place(facts.entries(), process, document)?;
-    let reply = reply_of(alloc, services, facts, process, &message)?;
-    Ok(said_entry(place, message, reply))
-}
-
 /// What the next action of a document says in a process.
-fn said_of<R: ServiceRule>(
-    alloc: Global,
-    services: &R,
+fn saying_of(
     facts: &PlainFacts<'_>,
     process: u64,
     document: u64,
     act: Act,
-) -> Result<Option<Entry>, NoMemory>
-    ensures { IfOk result (λ next. next ≡ following.said_of R.rule facts.now.script facts.now.entries process document act) }
+) -> Result<Option<Saying>, NoMemory>
+    ensures { IfOk result (λ next. next ≡ sayings.saying_of facts.now.entries process document act) }
 {
     match act {
-        Act::Message(message) => Ok(Some(said(
-            alloc, services, facts, process, document, message,
-        )?)),
+        Act::Message(message) => {
+            let place = next_place(facts.entries(), process, document)?;
+            Ok(Some(Saying { place, message }))
+        }
         _ => Ok(None),
     }
 }
 
-/// The message of a document in its process, which is locked.
-#[tactic(auto, unfolding(history_steps::specs::MayFollow::said_in))]
-fn said_in<R: ServiceRule>(
+/// What a document says next in its process, which is locked.
+#[tactic(auto, unfolding(crate::specs::Sayings::saying_in))]
+fn saying_in(
     alloc: Global,
-    services: &R,
     facts: &PlainFacts<'_>,
     document: u64,
     process: u64,
-) -> Result<Option<Entry>, NoMemory>
-    ensures { IfOk result (λ next. next ≡ following.said_in R.rule facts.now.script facts.now.entries document process) }
+) -> Result<Option<Saying>, NoMemory>
+    ensures { IfOk result (λ next. next ≡ sayings.saying_in facts.now.script facts.now.entries document process) }
 {
     if !is_locked(facts.entries(), process) {
         return Ok(None);
     }
     let act = next_act(alloc, facts, document)?;
-    said_of(alloc, services, facts, process, document, act)
+    saying_of(facts, process, document, act)
+}
+
+/// What a current document says next.
+#[tactic(auto, unfolding(crate::specs::Sayings::saying_next))]
+pub fn saying_next(
+    alloc: Global,
+    facts: &PlainFacts<'_>,
+    document: u64,
+) -> Result<Option<Saying>, NoMemory>
+    ensures { IfOk result (λ next. next ≡ sayings.saying_next facts.now.script facts.now.entries document) }
+{
+    if !facts.is_current(document) {
+        return Ok(None);
+    }
+    match process_of(facts.entries(), document) {
+        Some(process) => saying_in(alloc, facts, document, process),
+        None => Ok(None),
+    }
+}
+
+/// What a document says, with its judgement.
+fn judged<R: ServiceRule>(
+    alloc: Global,
+    services: &R,
+    facts: &PlainFacts<'_>,
+    saying: Saying,
+) -> Result<Entry, NoMemory>
+    ensures { IfOk result (λ entry. entry ≡ sayings.judged R.rule facts.now.script facts.now.entries saying) }
+{
+    let process = u64::from(saying.place.process);
+    let reply = reply_of(alloc, services, facts, process, &saying.message)?;
+    Ok(saying.answered(reply))
 }
 
 /// A current document sends its next message.
-#[tactic(auto, unfolding(history_steps::specs::MayFollow::said_next))]
+#[tactic(auto, using(crate::proofs::Sayings::said_is_judged))]
 pub fn said_next<R: ServiceRule>(
     alloc: Global,
     services: &R,
@@ -111,11 +141,8 @@ pub fn said_next<R: ServiceRule>(
 ) -> Result<Option<Entry>, NoMemory>
     ensures { IfOk result (λ next. next ≡ following.said_next R.rule facts.now.script facts.now.entries document) }
 {
-    if !facts.is_current(document) {
-        return Ok(None);
-    }
-    match process_of(facts.entries(), document) {
-        Some(process) => said_in(alloc, services, facts, document, process),
+    match saying_next(alloc, facts, document)? {
+        Some(saying) => Ok(Some(judged(alloc, services, facts, saying)?)),
         None => Ok(None),
     }
 }

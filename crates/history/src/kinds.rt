@@ -1,16 +1,16 @@
-//! The lists of next entries that go by the numbers of their objects.
+//! The lists of next entries that go by the numbers of their objects, but for that of the messages, which are judged.
 
 ghost use Rattle.std.specs.Prelude.{◌≡◌, IfOk};
 ghost use Rattle.history.specs.Kinds.{next_by};
 ghost use Rattle.history_steps.specs.Nexts as listing;
 
 use crate::deliveries::{end_next, head_next, piece_next, request_hop};
-use crate::documents::{commit_next, local_next, said_next};
+use crate::documents::{commit_next, local_next};
 use crate::navigations::{end_navigation_next, navigation_hop, order_next};
 use crate::processes::{crash_next, exit_next};
 use plain_facts::PlainFacts;
 use plain_facts::orders::had_order;
-use script_model::{Entry, NoMemory, ServiceRule};
+use script_model::{Entry, NoMemory};
 use std::alloc::Global;
 
 /// What the objects of a list are, and which entries of theirs it has.
@@ -19,7 +19,6 @@ pub enum Listed {
     NavigationHops,
     Orders,
     NavigationEnds,
-    Messages,
     /// The commits of the orders to a process, by navigation.
     CommitsIn(u64),
     Locals,
@@ -48,20 +47,18 @@ fn commit_in_process(
 }
 
 /// The entry of the object with a number that a list has, if it has one.
-pub fn next_by<R: ServiceRule>(
+pub fn next_by(
     alloc: Global,
-    services: &R,
     facts: &PlainFacts<'_>,
     listed: Listed,
     number: u64,
 ) -> Result<Option<Entry>, NoMemory>
-    ensures { IfOk result (λ next. next ≡ next_by R.rule facts.now.script facts.now.entries listed number) }
+    ensures { IfOk result (λ next. next ≡ next_by facts.now.script facts.now.entries listed number) }
 {
     match listed {
         Listed::NavigationHops => navigation_hop(alloc, facts, number),
         Listed::Orders => order_next(alloc, facts, number),
         Listed::NavigationEnds => end_navigation_next(alloc, facts, number),
-        Listed::Messages => said_next(alloc, services, facts, number),
         Listed::CommitsIn(process) => commit_in_process(alloc, facts, process, number),
         Listed::Locals => local_next(alloc, facts, number),
         Listed::RequestHops => request_hop(alloc, facts, number),

@@ -6,21 +6,21 @@
 //! and `history_rules`; the rules are the project's own, after Chromium's process model.
 #![tactic(auto)]
 
-mod acts;
-mod deliveries;
-mod documents;
+pub mod acts;
+pub mod deliveries;
+pub mod documents;
 mod following;
 mod judging;
-mod kinds;
+pub mod kinds;
 mod listing;
-mod navigations;
-mod processes;
+pub mod navigations;
+pub mod processes;
 mod run;
 
 pub use following::may;
 pub use history_entries::{
     Body, EndHow, Entry, EntryKind, History, HopOf, LocalWhat, Message, Mode, PieceBytes, Policy,
-    RawUrl, Reply, RequestText, Rule, ServiceName, Src, Target, text_of,
+    RawUrl, Reply, RequestText, Roomy, Rule, ServiceName, Src, Target, text_of,
 };
 pub use judging::reply_of;
 pub use listing::nexts;

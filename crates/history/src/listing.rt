@@ -5,8 +5,10 @@ ghost use Rattle.std.specs.List.{range_with_len};
 ghost use Rattle.std.specs.Option.{option_to_list};
 ghost use Rattle.history.specs.Kinds.{next_by};
 ghost use Rattle.history.specs.Parts.{before_commits, behind_commits};
+ghost use Rattle.history_steps.specs.MayFollow.{said_next};
 ghost use Rattle.history_steps.specs.Nexts as listing;
 
+use crate::documents::said_next;
 use crate::kinds::{Listed, next_by};
 use crate::processes::{open_next, warm_next};
 use history_entries::History;
@@ -26,27 +28,41 @@ fn push_some(found: &mut Vec<Entry>, next: Option<Entry>) -> Result<(), NoMemory
 }
 
 /// The entries of a list, of the objects with numbers below `count`.
-fn push_listed<R: ServiceRule>(
+fn push_listed(
     alloc: Global,
-    services: &R,
     facts: &PlainFacts<'_>,
     listed: Listed,
     count: u64,
     found: &mut Vec<Entry>,
 ) -> Result<(), NoMemory>
-    ensures { OnOk result (found.new.items ≡ found.old.items ++ filter_map (next_by R.rule facts.now.script facts.now.entries listed) (range_with_len 0 count)) }
+    ensures { OnOk result (found.new.items ≡ found.old.items ++ filter_map (next_by facts.now.script facts.now.entries listed) (range_with_len 0 count)) }
 {
     for number in 0..count {
-        push_some(found, next_by(alloc, services, facts, listed, number)?)?;
+        push_some(found, next_by(alloc, facts, listed, number)?)?;
+    }
+    Ok(())
+}
+
+/// The messages of the documents with numbers below `count`, with their judgements.
+fn push_messages<R: ServiceRule>(
+    alloc: Global,
+    services: &R,
+    facts: &PlainFacts<'_>,
+    count: u64,
+    found: &mut Vec<Entry>,
+) -> Result<(), NoMemory>
+    ensures { OnOk result (found.new.items ≡ found.old.items ++ filter_map (said_next R.rule facts.now.script facts.now.entries) (range_with_len 0 count)) }
+{
+    for document in 0..count {
+        push_some(found, said_next(alloc, services, facts, document)?)?;
     }
     Ok(())
 }
 
 /// The commits of a process, by navigation.
 #[tactic(auto, unfolding(history_steps::specs::Nexts::process_commits))]
-fn push_commits_in<R: ServiceRule>(
+fn push_commits_in(
     alloc: Global,
-    services: &R,
     facts: &PlainFacts<'_>,
     process: u64,
     found: &mut Vec<Entry>,
@@ -54,28 +70,20 @@ fn push_commits_in<R: ServiceRule>(
     ensures { OnOk result (found.new.items ≡ found.old.items ++ listing.process_commits facts.now.script facts.now.entries process) }
 {
     let listed = Listed::CommitsIn(process);
-    push_listed(
-        alloc,
-        services,
-        facts,
-        listed,
-        facts.navigations_made(),
-        found,
-    )
+    push_listed(alloc, facts, listed, facts.navigations_made(), found)
 }
 
 /// The commits, by process and then by navigation.
 #[tactic(auto, unfolding(history_steps::specs::Nexts::commit_nexts))]
-fn push_commits<R: ServiceRule>(
+fn push_commits(
     alloc: Global,
-    services: &R,
     facts: &PlainFacts<'_>,
     found: &mut Vec<Entry>,
 ) -> Result<(), NoMemory>
     ensures { OnOk result (found.new.items ≡ found.old.items ++ listing.commit_nexts facts.now.script facts.now.entries) }
 {
     for process in 0..started(facts.entries()) {
-        push_commits_in(alloc, services, facts, process, found)?;
+        push_commits_in(alloc, facts, process, found)?;
     }
     Ok(())
 }
@@ -95,33 +103,18 @@ fn push_before_commits<R: ServiceRule>(
     let processes = started(facts.entries());
     push_some(found, open_next(facts)?)?;
     push_some(found, warm_next(facts)?)?;
-    push_listed(
-        alloc,
-        services,
-        facts,
-        Listed::NavigationHops,
-        navigations,
-        found,
-    )?;
-    push_listed(alloc, services, facts, Listed::RequestHops, requests, found)?;
-    push_listed(alloc, services, facts, Listed::Orders, navigations, found)?;
-    push_listed(
-        alloc,
-        services,
-        facts,
-        Listed::NavigationEnds,
-        navigations,
-        found,
-    )?;
-    push_listed(alloc, services, facts, Listed::Messages, navigations, found)?;
-    push_listed(alloc, services, facts, Listed::Crashes, processes, found)
+    push_listed(alloc, facts, Listed::NavigationHops, navigations, found)?;
+    push_listed(alloc, facts, Listed::RequestHops, requests, found)?;
+    push_listed(alloc, facts, Listed::Orders, navigations, found)?;
+    push_listed(alloc, facts, Listed::NavigationEnds, navigations, found)?;
+    push_messages(alloc, services, facts, navigations, found)?;
+    push_listed(alloc, facts, Listed::Crashes, processes, found)
 }
 
 /// What stands behind the commits: what documents do by themselves, what is delivered, and the exits.
 #[tactic(auto, unfolding(history_steps::specs::Nexts::local_nexts, history_steps::specs::Nexts::head_nexts, history_steps::specs::Nexts::piece_nexts, history_steps::specs::Nexts::end_nexts, history_steps::specs::Nexts::exit_nexts))]
-fn push_behind_commits<R: ServiceRule>(
+fn push_behind_commits(
     alloc: Global,
-    services: &R,
     facts: &PlainFacts<'_>,
     found: &mut Vec<Entry>,
 ) -> Result<(), NoMemory>
@@ -130,11 +123,11 @@ fn push_behind_commits<R: ServiceRule>(
     let navigations = facts.navigations_made();
     let requests = requests_made(facts.entries());
     let processes = started(facts.entries());
-    push_listed(alloc, services, facts, Listed::Locals, navigations, found)?;
-    push_listed(alloc, services, facts, Listed::Heads, requests, found)?;
-    push_listed(alloc, services, facts, Listed::Pieces, requests, found)?;
-    push_listed(alloc, services, facts, Listed::Ends, requests, found)?;
-    push_listed(alloc, services, facts, Listed::Exits, processes, found)
+    push_listed(alloc, facts, Listed::Locals, navigations, found)?;
+    push_listed(alloc, facts, Listed::Heads, requests, found)?;
+    push_listed(alloc, facts, Listed::Pieces, requests, found)?;
+    push_listed(alloc, facts, Listed::Ends, requests, found)?;
+    push_listed(alloc, facts, Listed::Exits, processes, found)
 }
 
 /// The entries that may follow a history, in order: by kind, then by the number of the object.
@@ -150,7 +143,7 @@ pub fn nexts<R: ServiceRule>(
     let facts = PlainFacts::new(alloc, script, history.entries())?;
     let mut found = Vec::new(alloc);
     push_before_commits(alloc, services, &facts, &mut found)?;
-    push_commits(alloc, services, &facts, &mut found)?;
-    push_behind_commits(alloc, services, &facts, &mut found)?;
+    push_commits(alloc, &facts, &mut found)?;
+    push_behind_commits(alloc, &facts, &mut found)?;
     Ok(found)
 }

@@ -1,4 +1,4 @@
-ghost use Rattle.std.specs.Prelude.{◌≡◌, ◌++◌, ◌∷◌, [], OnOk, OnErr};
+ghost use Rattle.std.specs.Prelude.{◌≡◌, ◌++◌, ◌∷◌, [], IfErr, IfOk, OnOk, OnErr};
 
 use history_entry::Entry;
 use page_origin::NoMemory;
@@ -45,10 +45,66 @@ impl History {
         self.entries.as_slice()
     }
 
+    /// The same history with room for one more entry. Where memory runs out it comes back as it was.
+    pub fn with_room(self) -> Result<Roomy, (History, NoMemory)>
+        ensures ok { IfOk result (λ roomy. roomy ≡ self) }
+        ensures err { IfErr result (λ stop. stop.0 ≡ self) }
+    {
+        let mut entries = self.entries;
+        match entries.reserve(1) {
+            Ok(()) => Ok(Roomy { entries }),
+            Err(_) => Err((History { entries }, NoMemory)),
+        }
+    }
+
     /// The entries by themselves, the oldest first.
     pub fn into_entries(self) -> Vec<Entry>
         ensures { result.items ≡ self }
     {
         self.entries
+    }
+}
+
+/// A history with room for one more entry, so that one can be added without memory.
+#[derive(Drop)]
+pub struct Roomy {
+    entries: Vec<Entry>,
+}
+
+impl Model for Roomy {
+    ghost use Rattle.std.specs.Prelude.{◌<◌, List, vec_capacity, vec_len};
+    ghost use Rattle.history_entry.specs.declared.entry.Entry.{Entry as EntryData};
+
+    ghost Value = { List EntryData };
+
+    ghost view = { λ h. h.entries.items };
+
+    ghost invariant = { λ h. vec_len h.entries < vec_capacity h.entries };
+}
+
+impl Roomy {
+    pub fn entries(&self) -> &[Entry]
+        ensures { result.now ≡ self.now }
+    {
+        self.entries.as_slice()
+    }
+
+    /// The history with an entry behind its others.
+    pub fn push(self, entry: Entry) -> History
+        ensures { result ≡ self ++ entry ∷ [] }
+    {
+        let mut entries = self.entries;
+        // There is room, so it can't fail.
+        let _ = entries.push(entry);
+        History { entries }
+    }
+
+    /// The history by itself.
+    pub fn release(self) -> History
+        ensures { result ≡ self }
+    {
+        History {
+            entries: self.entries,
+        }
     }
 }

@@ -7,7 +7,7 @@
 mod history;
 mod text;
 
-pub use history::History;
+pub use history::{History, Roomy};
 pub use history_entry::{
     Body, EndHow, Entry, EntryKind, HopOf, LocalWhat, Message, Mode, PieceBytes, Policy, RawUrl,
     Reply, RequestText, Rule, ServiceName, Src, Target,

@@ -9,7 +9,15 @@ fn texts_of_either_policy(rt: HostRuntime) -> Result<(), Fail> {
     let text = text_of(alloc, Policy::Two, &history)?;
     assert_eq!(rt; text.as_slice(), b"history 2\n".as_slice());
     history.push(Entry::Opened(0))?;
-    history.push(Entry::Exit(7))?;
+    let Ok(roomy) = history.with_room() else {
+        return Err(Fail::new("no room for an entry"));
+    };
+    assert_eq!(rt; roomy.entries().len(), 1);
+    let history = roomy.push(Entry::Exit(7));
+    let Ok(roomy) = history.with_room() else {
+        return Err(Fail::new("no room for an entry"));
+    };
+    let history = roomy.release();
     assert_eq!(rt; history.entries().len(), 2);
     let text = text_of(alloc, Policy::Two, &history)?;
     assert_eq!(rt; text.as_slice(), b"history 2\nopen 0\nexit 7\n".as_slice());
