@@ -1,0 +1,4 @@
+pub mod Origins
+pub mod KeyChanges
+pub mod Holding
+pub mod Placing
