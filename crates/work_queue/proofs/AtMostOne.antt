@@ -100,8 +100,8 @@ found_at p xs i is =
     let here : position_or_len p xs ≡ i = below.1 in
     let in_list : i < length xs = omega arith in
     elim (slice_get_cases xs i).1 [
-      inl h ↦ record { item = h.0; at = h.2; passes = ap p (sym h.3) ∙ (position-Some p xs i h.0 is).1; within = in_list } |
-      inr h ↦ absurd (omega arith)
+      | inl h ↦ record { item = h.0; at = h.2; passes = ap p (sym h.3) ∙ (position-Some p xs i h.0 is).1; within = in_list }
+      | inr h ↦ absurd (omega arith)
     ]
 
 -- so one passes

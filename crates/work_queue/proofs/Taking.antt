@@ -1,5 +1,5 @@
 -- What is left where a task or a key is taken out.
-use Rattle.std.proofs.Common.{◌≡◌, ◌+◌, ◌<◌, ◌≤◌, ◌∙◌, [], ℕ, Bool, List, None, Option, Some, ap, arith, cond, false, get_or, inl, inr, length, refl, sym, true}
+use Rattle.std.proofs.Common.{◌≡◌, ◌+◌, ◌<◌, ◌≤◌, ◌∙◌, ℕ, List, None, Option, Some, ap, arith, cond, false, get_or, inl, inr, length, refl, sym, true}
 use Rattle.std.specs.Prelude.{IfSome, OnSome, count_by, is_some, position, remove, slice_get, unwrap_or}
 use Rattle.std.proofs.lemmas.Bool.{cases_lt, false≢true}
 use Rattle.std.proofs.lemmas.Option.{slice_get_past, slice_get_read}
@@ -18,7 +18,7 @@ takes_at kind old new task at is few =
     record {
       chosen = first_at (is_of kind) old ∙ at;
       rest = is ∙ remove_is_filter (has_key (key_of task)) old place task at (same_key-refl (key_of task)) (few (key_of task));
-      counts = λ key. ap (λ xs. count_by (has_key key) xs + cond (has_key key task) 1 0) is ∙ count_remove (has_key key) old place task at
+      counts = λ key. ap (λ xs. count_by (has_key key) xs + cond (has_key key task) 1 0) is ∙ count_remove (has_key key) old place task at;
     }
 
 -- what a removal at the place for a kind says

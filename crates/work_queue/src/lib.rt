@@ -15,3 +15,6 @@ pub use history_rules::{FrameList, Sight};
 pub use page_origin::{Origin, PageUrl};
 pub use task::{ActTask, BrowserJob, Chain, Kind, LoadTask, Task, TaskKey};
 pub use tasks::{Claim, Tasks};
+
+#[cfg(test)]
+mod tests;

@@ -75,6 +75,7 @@ pub enum TaskKey {
 }
 
 impl Task {
+    /// Of which object the task is.
     pub fn key(&self) -> TaskKey
         ensures { result ≡ key_of self.now }
     {
@@ -86,7 +87,7 @@ impl Task {
     }
 
     /// Whether workers of this kind ask for the task.
-    pub fn is_of(&self, kind: Kind) -> bool
+    pub(crate) fn is_of(&self, kind: Kind) -> bool
         ensures { result ≡ is_of kind self.now }
     {
         matches!(
