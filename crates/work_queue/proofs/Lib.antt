@@ -1,0 +1,4 @@
+pub mod Same
+pub mod AtMostOne
+pub mod Apart
+pub mod Taking
