@@ -1,7 +1,7 @@
 -- A commit against its order, by the order's URL and origin.
-use Rattle.std.proofs.Common.{ap, refl, ◌∙◌}
+use Rattle.std.proofs.Common.{ap, ◌∙◌}
 use Rattle.std.specs.Option.{option_map, option_map_or}
-use Rattle.std.specs.Prelude.{◌≡◌, if◌then◌else◌, Bool, List, None, Option, Some, bytes_eq, not, ℕ}
+use Rattle.std.specs.Prelude.{◌≡◌, if◌then◌else◌, List, None, Option, Some, bytes_eq, not, ℕ}
 use Rattle.history_entry.specs.declared.reply.Reply.{Reply}
 use Rattle.history_entry.specs.declared.reply.Reply.TheVariants.{Kill, Ok as Okay}
 use Rattle.history_entry.specs.declared.rule.Rule.TheVariants.{K10, K8, K9}

@@ -3,8 +3,8 @@ use Rattle.std.proofs.Common.{ap, arith, refl, sym, ◌∙◌}
 use Rattle.std.proofs.lemmas.Bool.{eq-eqb, eqb-true}
 use Rattle.std.proofs.lemmas.List.Sums.{length-filter}
 use Rattle.std.proofs.lemmas.Option.{slice_get_within}
-use Rattle.std.specs.Option.{option_map, option_map_or}
-use Rattle.std.specs.Prelude.{◌≡◌, ◌+◌, ◌-◌, ◌<◌, ◌≤◌, ◌==◌, ◌&&◌, if◌then◌else◌, Bool, List, None, Option, Some, count_by, false, filter, length, nat_lt, option_and_then, slice_get, true, ℕ}
+use Rattle.std.specs.Option.{option_map_or}
+use Rattle.std.specs.Prelude.{◌≡◌, ◌+◌, ◌-◌, ◌<◌, ◌≤◌, ◌==◌, if◌then◌else◌, Bool, List, None, Some, count_by, false, filter, nat_lt, option_and_then, slice_get, true, ℕ}
 use Rattle.std.specs.List.{list_all, list_any}
 use Rattle.history_entry.specs.declared.body.Message.{Message}
 use Rattle.history_entry.specs.declared.entry.Entry.{Entry}
@@ -12,7 +12,7 @@ use Rattle.history_rules.proofs.Apart.{and_left, from_cond, from_else, from_map,
 use Rattle.history_rules.proofs.Growth.{match_found}
 use Rattle.history_rules.specs.Documents.{commit_at, document_in, is_current, is_kept, is_present, last_in, living}
 use Rattle.history_rules.specs.Entries.{CommitData, accepted, commit_in, makes_frame, opens}
-use Rattle.history_rules.specs.Frames.{adder_in, adder_of, frame_maker, frame_of, frames_made, group_of, is_child, is_in_group, lineage, makers_within, parent_of, share_group, was_made}
+use Rattle.history_rules.specs.Frames.{adder_in, adder_of, frame_maker, frame_of, frames_made, group_of, is_child, is_in_group, lineage, parent_of, share_group, was_made}
 use Rattle.history_rules.specs.Processes.{is_dead}
 use Rattle.script_model.specs.ScriptData.{ScriptData, starts}
 

@@ -2,8 +2,7 @@
 use Rattle.std.proofs.Common.{ap, arith, refl, sym, ◌∙◌}
 use Rattle.std.proofs.lemmas.List.FromFn.{length-range_with_len}
 use Rattle.std.proofs.lemmas.List.Sums.{count_by-le-length, length-filter}
-use Rattle.std.proofs.lemmas.Option.{slice_get_cases}
-use Rattle.std.specs.Prelude.{◌≡◌, ◌+◌, ◌++◌, ◌≤◌, ◌∷◌, [], List, None, Option, Some, filter, length, slice_get, suc, take, zero, ℕ}
+use Rattle.std.specs.Prelude.{◌≡◌, ◌+◌, ◌++◌, ◌≤◌, ◌∷◌, [], List, None, Some, length, slice_get, suc, take, zero, ℕ}
 use Rattle.std.specs.List.{range_with_len}
 use Rattle.history_entry.specs.declared.entry.Entry.{Entry}
 use Rattle.history_rules.proofs.Growth.{take_next}

@@ -1,11 +1,10 @@
 -- What a judgement asks of the services, and what they keep after it.
 use Rattle.std.specs.Option.{option_to_list}
 use Rattle.std.specs.Prelude.{◌≡◌, ◌<◌, ◌-◌, ◌^◌, [], if◌then◌else◌, Bool, Err, List, Ok, Result, false, length, true, ℕ}
-use Rattle.page_origin.specs.declared.origin.Origin.TheVariants.{Opaque, Tuple}
+use Rattle.page_origin.specs.declared.origin.Origin.TheVariants.{Tuple}
 use Rattle.page_origin.specs.declared.origin.TupleOrigin.{TupleOrigin}
 use Rattle.history_entry.specs.declared.body.Body.{Body}
 use Rattle.history_entry.specs.declared.body.Body.TheVariants.{Ask, DidCommit, Post, RemoveFrame}
-use Rattle.history_entry.specs.declared.body.Message.{Message}
 use Rattle.history_entry.specs.declared.entry.Entry.{Entry}
 use Rattle.history_entry.specs.declared.reply.Reply.{Reply}
 use Rattle.history_rules.specs.Services.{accepted_requests, body_asked, is_answer}
