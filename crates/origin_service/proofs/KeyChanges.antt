@@ -3,7 +3,7 @@ use Rattle.std.proofs.Common.{◌⊎◌, ap, arith, inl, inr, refl, subst, sym, 
 use Rattle.std.proofs.lemmas.Slice.Eq.{bytes_eq-Decides}
 use Rattle.std.specs.Option.{option_flatten, option_or}
 use Rattle.std.specs.Prelude.{◌≡◌, ◌+◌, ◌++◌, ◌∷◌, [], if◌then◌else◌, Bool, List, None, Option, Some, bytes_eq, false, is_none, is_some, true, unwrap_or, ℕ}
-use Rattle.service_rule.specs.Store.{GetKey, RemoveKey, SetKey, StoreRequest, is_last_set, key_count, last_left, leaves, value_of}
+use Rattle.service_rule.specs.Store.{GetKey, RemoveKey, SetKey, StoreRequest, key_count, last_left, leaves, value_of}
 
 or_none : {A : Type 0} (a : Option A) → option_or a None ≡ a
 or_none None = refl

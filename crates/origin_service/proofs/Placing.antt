@@ -1,9 +1,8 @@
 -- One shelf of a list changed: what is kept of its origin changes, and nothing else.
-use Rattle.std.proofs.Common.{ap, arith, refl, subst, sym, ◌∙◌, get_or, set}
+use Rattle.std.proofs.Common.{ap, arith, length-append, refl, subst, sym, ◌∙◌, get_or, set}
 use Rattle.std.proofs.lemmas.Iterator.Adapters.{position_from-zero}
 use Rattle.std.specs.List.{position, position_from}
-use Rattle.std.specs.Option.{option_map_or}
-use Rattle.std.specs.Prelude.{◌≡◌, ◌+◌, ◌++◌, ◌<◌, ◌&&◌, ◌∷◌, [], if◌then◌else◌, Bool, List, None, Option, Result, Some, bytes_eq, codes, false, find, length, suc, true, zero, ℕ}
+use Rattle.std.specs.Prelude.{◌≤◌, Err, Ok, ◌≡◌, ◌+◌, ◌++◌, ◌<◌, ◌&&◌, ◌∷◌, [], if◌then◌else◌, Bool, List, None, Result, Some, bytes_eq, codes, false, length, suc, true, zero, ℕ}
 use Rattle.std.proofs.lemmas.Slice.Eq.{bytes_eq-Decides}
 use Rattle.origin_service.proofs.Origins.{tuples_same}
 use Rattle.origin_service.specs.Kept.{accepted, gained}
@@ -12,6 +11,7 @@ use Rattle.page_origin.specs.Origins.{equal_tuples}
 use Rattle.page_origin.specs.declared.origin.TupleOrigin.{TupleOrigin}
 use Rattle.service_rule.specs.declared.service.Asked.{Asked}
 use Rattle.service_rule.specs.declared.service.ServiceAnswer.{ServiceAnswer}
+use Rattle.service_rule.specs.declared.service.ServiceAnswer.TheVariants.{Refused, Said}
 
 append_nothing : {A : Type 0} (xs : List A) → xs ≡ xs ++ []
 append_nothing [] = refl
@@ -146,3 +146,18 @@ pub all_gain : {E : Type 0} (old new : List ShelfData) (result : Result ServiceA
 all_gain old new result service origin document request is gains name tuple =
     by_name (bytes_eq service name) (bytes_eq name (codes "store")) (equal_tuples tuple origin) (kept_of old tuple) (kept_of new tuple) (accepted result document request)
     (named_by service name (bytes_eq service name) (bytes_eq name (codes "store")) true is refl refl) (gains tuple)
+
+few_by : {E : Type 0} (t : Bool) (result : Result ServiceAnswer E) (document : ℕ) (request : List ℕ) → length (if t then accepted result document request else []) ≤ 1
+few_by true (Ok (Said text)) document request = omega arith
+few_by true (Ok (Refused rule)) document request = omega arith
+few_by true (Err e) document request = omega arith
+few_by false result document request = omega arith
+
+-- an ask adds at most one request
+pub gained_few : {E : Type 0} (result : Result ServiceAnswer E) (service : List ℕ) (origin : TupleOrigin) (document : ℕ) (request name : List ℕ) (tuple : TupleOrigin) (old new : List Asked)
+    → new ≡ old ++ gained result service origin document request name tuple → length new ≤ length old + 1
+gained_few result service origin document request name tuple old new is =
+    let few : length (gained result service origin document request name tuple) ≤ 1 = few_by (bytes_eq service name && equal_tuples tuple origin) result document request in
+    let long : length new ≡ length old + length (gained result service origin document request name tuple) =
+    ap length is ∙ length-append old (gained result service origin document request name tuple) in
+    omega arith

@@ -1,6 +1,6 @@
 -- What a service keeps: of each tuple origin, to the service of each name, the requests that it accepted. Own rules, after what Chromium
 -- keeps for each origin by itself.
-use Rattle.std.specs.Prelude.{◌&&◌, ◌∷◌, [], if◌then◌else◌, Bool, Err, List, Ok, Result, bytes_eq, ℕ}
+use Rattle.std.specs.Prelude.{◌&&◌, ◌∷◌, [], if◌then◌else◌, Err, List, Ok, Result, bytes_eq, ℕ}
 use Rattle.page_origin.specs.Origins.{equal_tuples}
 use Rattle.page_origin.specs.declared.origin.TupleOrigin.{TupleOrigin}
 use Rattle.service_rule.specs.declared.service.Asked.{Asked}

@@ -11,3 +11,6 @@ mod store;
 
 pub use service::Service;
 pub use store::Store;
+
+#[cfg(test)]
+mod tests;

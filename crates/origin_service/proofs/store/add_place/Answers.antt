@@ -1,4 +1,4 @@
-use Rattle.std.proofs.Common.{◌≡◌, ◌++◌, ◌∙◌, ◌∷◌, [], List, Some, ap, length, refl, sym, true}
+use Rattle.std.proofs.Common.{◌≡◌, ◌++◌, ◌∙◌, ◌∷◌, [], List, Some, ap, length, sym, true}
 use Rattle.std.specs.List.{position}
 use Rattle.page_origin.specs.Origins.{equal_tuples}
 use Rattle.origin_service.proofs.Origins.{tuple_itself}

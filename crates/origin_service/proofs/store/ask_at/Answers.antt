@@ -14,7 +14,7 @@ returns-clause-answer c =
     let shelf : ShelfData = c.index-shelves-place.result in
     let found = position-Some (λ (s : ShelfData). equal_tuples c.args.origin.now s.origin) c.args.shelves.now c.args.place shelf c.requires.place in
     let same : kept_of c.args.shelves.now c.args.origin.now ≡ (get_or c.args.shelves.now c.args.place shelf).kept =
-        kept_at c.args.shelves.now c.args.place c.args.origin.now shelf found.0 found.1 found.2 in
+    kept_at c.args.shelves.now c.args.place c.args.origin.now shelf found.0 found.1 found.2 in
     subst (λ (kept : List Asked). IfOk c.ask.result (λ answer. answer ≡ store.answer_request (store_requests kept) (key_request c.args.request))) (sym same) c.ask.ensures.answer
 
 pub returns-clause-kept : goal.returns-clause-kept

@@ -1,0 +1,4 @@
+pub mod Gains
+pub mod Made
+pub mod Compared
+pub mod Numbers
