@@ -8,43 +8,42 @@ use Rattle.std.proofs.lemmas.List.Recursion.{is_count_by}
 use Rattle.std.proofs.lemmas.List.Elements.{recursion_from_All}
 use Rattle.browser_io.specs.Scripted.{IsCutFrom, cut_at, cuts_below, pieces_from}
 
--- each is above the one before it, the first above `from`
-abbrev Rises : ℕ → List ℕ → Type 0
-Rises from [] = Unit {0}
-Rises from (c ∷ cuts) = (from < c) × Rises c cuts
-
-rises : (from : ℕ) (cuts : List ℕ) → IsStrictlyIncreasing cuts → (0 < length cuts → from < slice_index cuts 0) → Rises from cuts
-rises from [] grow first = tt
-rises from (c ∷ cuts) grow first =
-    (first (omega arith), rises c cuts (λ k lt. later k (grow (suc k) (omega arith))) (λ some. grow 0 (omega arith)))
+-- increasing cuts within a body, by recursion on them
+pub cuts_from : (size : ℕ) (cuts : List ℕ) → IsStrictlyIncreasing cuts → All (λ c. (0 < c) × (c < size)) cuts → IsCutFrom 0 size cuts
+cuts_from size cuts grow all = rises 0 cuts grow every (first cuts every)
   where
-    later : (k : ℕ) → slice_index (c ∷ cuts) (suc k) < slice_index (c ∷ cuts) (suc k + 1) → slice_index cuts k < slice_index cuts (k + 1)
-    later k lt = let same : suc k + 1 ≡ suc (k + 1) = omega arith in subst (λ j. slice_index (c ∷ cuts) (suc k) < slice_index (c ∷ cuts) j) same lt
+    every : AllByRecursion (λ c. (0 < c) × (c < size)) cuts
+    every = recursion_from_All (λ c. (0 < c) × (c < size)) cuts all
 
-rises_from_start : (size : ℕ) (cuts : List ℕ) → IsStrictlyIncreasing cuts → All (λ c. (0 < c) × (c < size)) cuts → Rises 0 cuts
-rises_from_start size cuts grow all = rises 0 cuts grow (first cuts (recursion_from_All (λ c. (0 < c) × (c < size)) cuts all))
-  where
     first : (xs : List ℕ) → AllByRecursion (λ c. (0 < c) × (c < size)) xs → 0 < length xs → 0 < slice_index xs 0
-    first [] every some = absurd (omega arith)
-    first (x ∷ xs) every some = every.0.0
+    first [] each some = absurd (omega arith)
+    first (x ∷ xs) each some = each.0.0
+
+    later : (c k : ℕ) (cs : List ℕ) → slice_index (c ∷ cs) (suc k) < slice_index (c ∷ cs) (suc k + 1) → slice_index cs k < slice_index cs (k + 1)
+    later c k cs lt = let same : suc k + 1 ≡ suc (k + 1) = omega arith in subst (λ j. slice_index (c ∷ cs) (suc k) < slice_index (c ∷ cs) j) same lt
+
+    rises : (from : ℕ) (cs : List ℕ) → IsStrictlyIncreasing cs → AllByRecursion (λ c. (0 < c) × (c < size)) cs → (0 < length cs → from < slice_index cs 0) → IsCutFrom from size cs
+    rises from [] grow each above = tt
+    rises from (c ∷ cs) grow each above =
+        (above (omega arith), each.0.1, rises c cs (λ k lt. later c k cs (grow (suc k) (omega arith))) each.1 (λ some. grow 0 (omega arith)))
 
 abbrev how_many : ℕ → List ℕ → ℕ
 how_many end [] = 0
 how_many end (c ∷ cuts) = cond (nat_lt c end) (1 + how_many end cuts) (how_many end cuts)
 
 -- none is below what the one before is not below
-none_below : (end from : ℕ) (cuts : List ℕ) → end ≤ from → Rises from cuts → (how_many end cuts ≡ 0) × (cuts_below end cuts ≡ [])
-none_below end from [] high rise = (refl, refl)
-none_below end from (c ∷ cuts) high rise = by_cases (nat_lt c end) refl (none_below end c cuts (omega arith) rise.1)
+none_below : (size end from : ℕ) (cuts : List ℕ) → end ≤ from → IsCutFrom from size cuts → (how_many end cuts ≡ 0) × (cuts_below end cuts ≡ [])
+none_below size end from [] high rise = (refl, refl)
+none_below size end from (c ∷ cuts) high rise = by_cases (nat_lt c end) refl (none_below size end c cuts (omega arith) rise.2)
   where
     by_cases : (b : Bool) → nat_lt c end ≡ b → (how_many end cuts ≡ 0) × (cuts_below end cuts ≡ []) → (cond b (1 + how_many end cuts) (how_many end cuts) ≡ 0) × (cond b (c ∷ cuts_below end cuts) (cuts_below end cuts) ≡ [])
     by_cases true is none = let low = ltb-true c end is in absurd (omega (arith, rise.0))
     by_cases false is none = none
 
 -- the cuts below an end are the first ones, and rise
-below_first : (end from : ℕ) (cuts : List ℕ) → Rises from cuts → (take (how_many end cuts) cuts ≡ cuts_below end cuts) × IsCutFrom from end (cuts_below end cuts)
-below_first end from [] rise = (refl, tt)
-below_first end from (c ∷ cuts) rise = by_cases (nat_lt c end) refl (below_first end c cuts rise.1)
+below_first : (size end from : ℕ) (cuts : List ℕ) → IsCutFrom from size cuts → (take (how_many end cuts) cuts ≡ cuts_below end cuts) × IsCutFrom from end (cuts_below end cuts)
+below_first size end from [] rise = (refl, tt)
+below_first size end from (c ∷ cuts) rise = by_cases (nat_lt c end) refl (below_first size end c cuts rise.2)
   where
     by_cases : (b : Bool) → nat_lt c end ≡ b → (take (how_many end cuts) cuts ≡ cuts_below end cuts) × IsCutFrom c end (cuts_below end cuts)
         → (take (cond b (1 + how_many end cuts) (how_many end cuts)) (c ∷ cuts) ≡ cond b (c ∷ cuts_below end cuts) (cuts_below end cuts)) × IsCutFrom from end (cond b (c ∷ cuts_below end cuts) (cuts_below end cuts))
@@ -53,14 +52,14 @@ below_first end from (c ∷ cuts) rise = by_cases (nat_lt c end) refl (below_fir
         (rw next (ap (λ xs. c ∷ xs) more.0), (rise.0, ltb-true c end is, more.1))
     by_cases false is more =
         let high : end ≤ c = ltb-false c end is in
-        let none = none_below end c cuts high rise.1 in
+        let none = none_below size end c cuts high rise.2 in
         (ap (λ n. take n (c ∷ cuts)) none.0 ∙ sym none.1, subst (λ xs. IsCutFrom from end xs) (sym none.1) tt)
 
-pub first_cuts : (size end : ℕ) (cuts : List ℕ) → IsStrictlyIncreasing cuts → All (λ c. (0 < c) × (c < size)) cuts → take (count_by (λ c. nat_lt c end) cuts) cuts ≡ cuts_below end cuts
-first_cuts size end cuts grow all = ap (λ n. take n cuts) (sym (is_count_by (how_many end) (λ c. nat_lt c end) refl (λ c cs. refl) cuts)) ∙ (below_first end 0 cuts (rises_from_start size cuts grow all)).0
+pub first_cuts : (size end : ℕ) (cuts : List ℕ) → IsCutFrom 0 size cuts → take (count_by (λ c. nat_lt c end) cuts) cuts ≡ cuts_below end cuts
+first_cuts size end cuts rise = ap (λ n. take n cuts) (sym (is_count_by (how_many end) (λ c. nat_lt c end) refl (λ c cs. refl) cuts)) ∙ (below_first size end 0 cuts rise).0
 
-pub cuts_rise : (size end : ℕ) (cuts : List ℕ) → IsStrictlyIncreasing cuts → All (λ c. (0 < c) × (c < size)) cuts → IsCutFrom 0 end (cuts_below end cuts)
-cuts_rise size end cuts grow all = (below_first end 0 cuts (rises_from_start size cuts grow all)).1
+pub cuts_rise : (size end : ℕ) (cuts : List ℕ) → IsCutFrom 0 size cuts → IsCutFrom 0 end (cuts_below end cuts)
+cuts_rise size end cuts rise = (below_first size end 0 cuts rise).1
 
 some_bytes : (bytes : List ℕ) (none some : List (List ℕ)) → 0 < length bytes → (if length bytes == 0 then none else some) ≡ some
 some_bytes [] none some long = absurd (omega arith)

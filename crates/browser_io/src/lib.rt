@@ -25,6 +25,8 @@ mod stream_tests;
 #[cfg(test)]
 mod tests;
 mod wire;
+#[cfg(test)]
+mod wire_tests;
 mod writing;
 
 pub use call_answers::NoMemory;

@@ -1,7 +1,6 @@
 //! A wire that carries a body in memory.
 
-ghost use Rattle.std.specs.Prelude.{◌≡◌, ◌≤◌, ◌<◌, ◌↔◌, ◌+◌, ◌-◌, ◌∷◌, [], All, true, false, count_by, drop, length, nat_lt, take, Some, IfSome, IfOk, OnErr, IsErr};
-ghost use Rattle.std.specs.List.Sorted.{IsStrictlyIncreasing};
+ghost use Rattle.std.specs.Prelude.{◌≡◌, ◌≤◌, ◌<◌, ◌↔◌, ◌+◌, ◌-◌, ◌∷◌, [], true, false, count_by, drop, length, nat_lt, take, Some, IfSome, IfOk, OnErr, IsErr};
 ghost use Rattle.std.specs.Option.{is_some};
 ghost use Rattle.browser_io.specs.Faults.{count_after};
 ghost use Rattle.browser_io.specs.Scripted.{IsCutFrom, cuts_below, pieces_from, pieces_of};
@@ -12,6 +11,7 @@ use crate::wire::{MAX_PIECE, Wire};
 use std::marker::Model;
 
 /// A body in memory, cut into pieces, of which each read hands over one. After them it ends, or fails at every read.
+#[derive(Drop)]
 pub struct ScriptWire<'a> {
     // What is left of the bytes that it carries, from this place of the body on, with the cuts behind that place.
     rest: &'a [u8],
@@ -47,8 +47,7 @@ fn count_below(cuts: &[u32], end: usize) -> usize
 
 /// The cuts below the end of what is carried, of the cuts of a body.
 fn cuts_within(cuts: &[u32], size: usize, end: usize) -> &[u32]
-    requires rising { IsStrictlyIncreasing cuts.now }
-    requires within { All (λ c. (0 < c) × (c < size)) cuts.now }
+    requires { IsCutFrom 0 size cuts.now }
     ensures first { result.now ≡ cuts_below end cuts.now }
     ensures rising { IsCutFrom 0 end result.now }
 {
@@ -79,8 +78,7 @@ impl<'a> ScriptWire<'a> {
     /// bytes, cut at the cuts below their end, and fails after them. No bytes are no piece.
     pub fn new(body: &'a [u8], cuts: &'a [u32], fail_after: Option<u32>) -> ScriptWire<'a>
         requires short { length body.now ≤ MAX_PIECE }
-        requires rising { IsStrictlyIncreasing cuts.now }
-        requires within { All (λ c. (0 < c) × (c < length body.now)) cuts.now }
+        requires cuts { IsCutFrom 0 (length body.now) cuts.now }
         requires fault { IfSome fail_after (λ sent. sent ≤ length body.now) }
         ensures { result ≡ record { left = pieces_of body.now cuts.now fail_after; fails = is_some fail_after; faults = 0 } }
     {
