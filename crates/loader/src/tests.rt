@@ -2,7 +2,7 @@
 
 ghost use Rattle.std.specs.Prelude.{◌≡◌, true, IfOk};
 ghost use Rattle.browser_io.specs.Scripted.{IsCutFrom};
-ghost use Rattle.loader.specs.Loads.{IsFresh};
+ghost use Rattle.loader.specs.Loads.{taken_count};
 
 use crate::{Judge, Load, ScriptWire, Step};
 use browser_io::MAX_PIECE;
@@ -38,7 +38,7 @@ fn wire<'a>(
 
 /// A load of a page of `https://b.com` for a document of `https://a.com`.
 fn load(alloc: Global) -> Result<Load, Fail>
-    ensures { IfOk result IsFresh }
+    ensures { IfOk result (λ load. taken_count load.progress ≡ 0) }
 {
     let rules = SiteRules::new(Rules::read(alloc, b"")?, Vec::new(alloc));
     let origin = origin(alloc, "https://a.com/")?;
