@@ -21,8 +21,8 @@ impl Model for Cursor {
     ghost invariant = { λ c. c.at ≤ vec_len c.bytes };
 }
 
-// Copies as many first bytes as `step` and both slices allow, and says how many.
-fn copy_front(rest: &[u8], buf: &mut [u8], step: usize) -> usize
+/// Copies as many first bytes as `step` and both slices allow, and says how many.
+pub(crate) fn copy_front(rest: &[u8], buf: &mut [u8], step: usize) -> usize
     ensures count { result ≡ min step (min (length buf.new) (length rest.now)) }
     ensures bytes { take result buf.new ≡ take result rest.now }
 {

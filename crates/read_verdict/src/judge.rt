@@ -115,6 +115,14 @@ impl Judge {
         }
     }
 
+    /// The ruling on all bytes so far.
+    pub fn ruling(&self) -> Ruling
+        ensures { (case : Case) (bytes : List ℕ) (ended : Bool) →
+            HasJudged self.now case bytes ended → result ≡ ruling_of (verdict_on case bytes ended) }
+    {
+        self.ruling
+    }
+
     /// Leave to hand out the response, where the verdict on all bytes so far is settled and allows it.
     pub fn cleared(&self) -> Option<Cleared>
         // It is for the judge's own request, and the verdict is to allow the response by its rule.

@@ -1,0 +1,4 @@
+-- What the contracts of a load cite, in reading order.
+pub mod Reads
+pub mod Loads
+pub mod Steps
