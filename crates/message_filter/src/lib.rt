@@ -13,3 +13,6 @@ mod rows;
 
 pub use facts::Facts;
 pub use judgement::judge;
+
+#[cfg(test)]
+mod tests;
