@@ -1,5 +1,5 @@
 -- A piece that is taken of the wire after the head.
-use Rattle.std.proofs.Common.{◌≡◌, ℕ, ◌+◌, Bool, true, false, List, [], ◌∷◌, ◌++◌, length, Some, None, inr, refl, sym, ap, subst, ◌∙◌, append-nil, length-append, arith}
+use Rattle.std.proofs.Common.{◌≡◌, ℕ, ◌+◌, false, List, [], ◌∷◌, ◌++◌, length, Some, inr, sym, ap, subst, ◌∙◌, append-nil, length-append, arith}
 use Rattle.std.proofs.lemmas.List.{flat_map_more}
 use Rattle.script_model.specs.declared.verdict.Verdict.{Verdict}
 use Rattle.script_model.specs.declared.verdict.Verdict.TheVariants.{Allow}
