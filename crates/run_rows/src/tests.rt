@@ -1,4 +1,4 @@
-//! Each script runs as its row says.
+//! Each script runs as its row says, by the plain run and by the core.
 
 mod bodies;
 mod counts;
@@ -29,7 +29,8 @@ mod sniffing;
 mod store;
 mod whole;
 
-use history::{run1, text_of};
+use browser_core::{Core, Store};
+use history::{History, run1, text_of};
 use script_input::read_script;
 use script_model::{PlainStore, Policy};
 use std::alloc::Global;
@@ -39,12 +40,38 @@ use std::test::Fail;
 /// What a row shows, its script, and the whole text of the script's run.
 type Row = (&'static str, &'static str, &'static str);
 
+fn history_text(alloc: Global, history: &History) -> Result<String, Fail> {
+    let text = text_of(alloc, Policy::Two, history)?;
+    Ok(String::from_utf8_lossy(alloc, text.as_slice())?)
+}
+
 /// The text of the one-thread run of a script.
 fn run_text(alloc: Global, script: &str) -> Result<String, Fail> {
     let script = read_script(alloc, script.as_bytes())?;
     let history = run1(alloc, &script, &PlainStore)?;
-    let text = text_of(alloc, Policy::Two, &history)?;
-    Ok(String::from_utf8_lossy(alloc, text.as_slice())?)
+    history_text(alloc, &history)
+}
+
+/// Drives a core to its end, and says whether each entry stood behind those before it.
+fn is_driven(alloc: Global, core: &mut Core<'_, Store>) -> Result<bool, Fail> {
+    for place in 0..400_000 {
+        match core.first(alloc)? {
+            Some(added) if added == place => {}
+            Some(_) => return Ok(false),
+            None => return Ok(core.finished(alloc)?),
+        }
+    }
+    Ok(false)
+}
+
+/// The text of the history that a core makes of a script, which is driven by the first of the next entries alone.
+fn core_text(alloc: Global, script: &str) -> Result<String, Fail> {
+    let script = read_script(alloc, script.as_bytes())?;
+    let mut core = Core::new(alloc, &script, Store::new(alloc))?;
+    if !is_driven(alloc, &mut core)? {
+        return Err(Fail::new("the core did not come to its end"));
+    }
+    history_text(alloc, &core.close())
 }
 
 /// Each script runs as its row says.
@@ -52,6 +79,8 @@ fn assert_runs_as_written(rt: &impl Abort, alloc: Global, rows: &[Row]) -> Resul
     for (shows, script, history) in rows {
         let text = run_text(alloc, script)?;
         assert_eq!(rt; text.as_str(), *history, "{shows}");
+        let text = core_text(alloc, script)?;
+        assert_eq!(rt; text.as_str(), *history, "the core: {shows}");
     }
     Ok(())
 }
