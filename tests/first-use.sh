@@ -45,10 +45,10 @@ KIT
 # A repository of a program, two crates below it and one beside it, in which nothing was built.
 make_repository() {
   rm -rf "$repository" "$calls" "$room/refuses"
-  mkdir -p "$repository/.ci" "$repository/tests/golden"
+  mkdir -p "$repository/.ci" "$repository/tests/golden" "$repository/tests/against-chromium"
   cp "$top/mortxalde" "$repository/"
   cp "$top/.ci/run" "$top/.ci/program.sh" "$repository/.ci/"
-  for part in golden/run audits.sh first-use.sh script-schema.sh rules-pages.sh history-view.sh; do
+  for part in golden/run audits.sh first-use.sh script-schema.sh rules-pages.sh history-view.sh against-chromium/run; do
     printf '#!/bin/sh\nexit 0\n' >"$repository/tests/$part"
     chmod +x "$repository/tests/$part"
   done
@@ -188,19 +188,25 @@ expect "a gate that fails" "$?" 1
 expect "a gate that fails: golden runs" "$(grep "^golden runs: FAILED" "$room/stdout")" "golden runs: FAILED"
 
 make_repository
-for part in script-schema.sh history-view.sh; do
+for part in script-schema.sh history-view.sh against-chromium/run; do
   printf '#!/bin/sh\nexit 77\n' >"$repository/tests/$part"
 done
 (cd "$repository" && ROOM=$room PATH=$room/kit:$PATH .ci/run >"$room/stdout" 2>&1)
 expect "a gate without python3" "$?" 0
 expect "a gate without python3: its lines" "$(grep "NOT CHECKED" "$room/stdout")" \
   "script schema: NOT CHECKED, since python3 with jsonschema is missing
-history view: NOT CHECKED, since python3 of version 3.8 or later is missing"
+history view: NOT CHECKED, since python3 of version 3.8 or later is missing
+beside a real Chromium: NOT CHECKED, since Debian's chromium, or what it needs, is missing"
 
 make_repository
 printf '#!/bin/sh\nexit 1\n' >"$repository/tests/history-view.sh"
 (cd "$repository" && ROOM=$room PATH=$room/kit:$PATH .ci/run >"$room/stdout" 2>&1)
 expect "a gate whose history view fails" "$?" 1
+
+make_repository
+printf '#!/bin/sh\nexit 1\n' >"$repository/tests/against-chromium/run"
+(cd "$repository" && ROOM=$room PATH=$room/kit:$PATH .ci/run >"$room/stdout" 2>&1)
+expect "a gate whose replays in Chromium fail" "$?" 1
 
 echo "$passed passed, $failed failed"
 [ "$failed" -eq 0 ]
