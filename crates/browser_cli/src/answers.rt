@@ -10,7 +10,8 @@ use crate::command::Command;
 use crate::framing::framed;
 use crate::status::{Finding, Status};
 use audit_run::{Audit, audit, audit_line};
-use history::{Policy, run1, text_of};
+use browser_core::{Store, run};
+use history::{Policy, text_of};
 use script_gen::{generate, summary_of};
 use script_input::{Refusal, ScriptStop, read_script};
 use script_model::{NoMemory, PlainStore};
@@ -52,7 +53,7 @@ fn run_script(alloc: Global, input: &[u8]) -> Result<Answer, ScriptStop>
     ensures refused { (refused : RefusalData) → result ≡ Err (ScriptStop.Refused refused) → answers.IsRefusal commands.One input.now refused }
 {
     let script = read_script(alloc, input)?;
-    let history = run1(alloc, &script, &PlainStore)?;
+    let history = run(alloc, &script, Store::new(alloc))?;
     Ok(Answer {
         finding: None,
         output: text_of(alloc, Policy::Two, &history)?,
@@ -85,7 +86,7 @@ fn summarize(alloc: Global, number: u64) -> Result<Answer, NoMemory>
     ensures { IfOk result (λ answer. (answers.status_of_finding answer.finding ≡ Status.Ran) × answers.IsSummary number answer.output.items) }
 {
     let script = generate(alloc, number)?;
-    let history = run1(alloc, &script, &PlainStore)?;
+    let history = run(alloc, &script, Store::new(alloc))?;
     Ok(Answer {
         finding: None,
         output: summary_of(alloc, &history)?,

@@ -19,7 +19,7 @@ use Rattle.message_filter.specs.Asking.{HaveRoom, KeepAccepted, Kept, gained_by}
 use Rattle.script_model.specs.ScriptData.{ScriptData}
 use Rattle.service_rule.specs.Services.{ServiceRule}
 use Rattle.service_rule.specs.declared.service.Asked.{Asked}
-use Rattle.browser_core.specs.Candidates.{is_said}
+use Rattle.browser_tasks.specs.Candidates.{is_said}
 use Rattle.browser_core.specs.Cores.{IsInStep, KeepAllAccepted}
 
 one_asked : {A B : Type 0} (f : A → Option B) (x : A) → filter_map f (x ∷ []) ≡ option_to_list (f x)

@@ -15,9 +15,10 @@ use Rattle.history.proofs.Sayings.{said_is_judged}
 use Rattle.history.specs.Sayings.{judged, saying_next}
 use Rattle.history.specs.declared.documents.Saying.{Saying}
 use Rattle.browser_core.proofs.Firsts.{first_behind, first_three}
-use Rattle.browser_core.specs.Candidates.{before_messages, behind_messages, entry_of, first_candidate, sayings}
-use Rattle.browser_core.specs.declared.candidate.Candidate.{Candidate}
-use Rattle.browser_core.specs.declared.candidate.Candidate.TheVariants.{Entry as Ready, Saying as Asks}
+use Rattle.browser_core.specs.Candidates.{before_messages, behind_messages, first_candidate, sayings}
+use Rattle.browser_tasks.specs.Candidates.{entry_of}
+use Rattle.browser_tasks.specs.declared.candidate.Candidate.{Candidate}
+use Rattle.browser_tasks.specs.declared.candidate.Candidate.TheVariants.{Entry as Ready, Saying as Asks}
 
 nine : {X : Type 0} (a b c d e f g i j : List X)
     → slice_get (a ++ b ++ c ++ d ++ e ++ f ++ g ++ i ++ j) 0

@@ -1,5 +1,5 @@
 -- The first of lists behind one another, and of what a loop gives.
-use Rattle.std.proofs.Common.{◌≡◌, ◌∙◌, ◌+◌, ◌-◌, ◌<◌, ◌++◌, ◌∷◌, [], List, None, Option, Some, ap, arith, refl, sym, ℕ}
+use Rattle.std.proofs.Common.{◌≡◌, ◌∙◌, ◌+◌, ◌-◌, ◌<◌, ◌++◌, ◌∷◌, [], List, None, Option, Some, ap, refl, sym, ℕ}
 use Rattle.std.specs.Prelude.{filter_map, slice_get}
 use Rattle.std.specs.List.{cons_option, flat_map, range_with_len}
 use Rattle.std.specs.Option.{option_map, option_or, option_to_list}
@@ -7,6 +7,7 @@ use Rattle.history_entry.specs.declared.entry.Entry.{Entry}
 use Rattle.script_model.specs.ScriptData.{ScriptData}
 use Rattle.history_steps.specs.MayFollow.{open_next, warm_next}
 use Rattle.history_steps.specs.Nexts.{commit_nexts, crash_nexts, end_navigation_nexts, end_nexts, exit_nexts, head_nexts, hop_nexts, local_nexts, order_nexts, piece_nexts}
+use Rattle.request_facts.proofs.Posts.{range_first}
 use Rattle.browser_core.specs.Candidates.{before_messages, behind_messages, deliveries}
 
 pub first_both : {X : Type 0} (xs ys : List X) → slice_get (xs ++ ys) 0 ≡ option_or (slice_get xs 0) (slice_get ys 0)
@@ -57,11 +58,6 @@ pub first_behind : (s : ScriptData) (h : List Entry)
     (option_or (slice_get (local_nexts s h) 0) (option_or (slice_get (deliveries s h) 0) (slice_get (exit_nexts s h) 0))))
 unfolding behind_messages
 first_behind s h = five (crash_nexts s h) (commit_nexts s h) (local_nexts s h) (deliveries s h) (exit_nexts s h)
-
-range_first : (i n : ℕ) → i < n → range_with_len i (n - i) ≡ i ∷ range_with_len (i + 1) (n - (i + 1))
-range_first i n below =
-    let more : n - i ≡ Rattle.std.specs.Prelude.suc (n - (i + 1)) = omega arith in
-    ap (range_with_len i) more
 
 given_first : {B : Type 0} (f : ℕ → List B) (i n : ℕ) → i < n → flat_map f (range_with_len i (n - i)) ≡ f i ++ flat_map f (range_with_len (i + 1) (n - (i + 1)))
 given_first f i n below = ap (flat_map f) (range_first i n below)

@@ -5,3 +5,8 @@ pub mod Nth
 pub mod Accepting
 pub mod FirstNext
 pub mod InStep
+pub mod Walks
+pub mod Possibles
+pub mod Filling
+pub mod Claimed
+pub mod Firstly

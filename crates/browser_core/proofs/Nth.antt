@@ -1,12 +1,8 @@
 -- The numbers of a range that pass a test, the first number taken off.
-use Rattle.std.proofs.Common.{◌∙◌, ap, arith, refl, sym}
+use Rattle.std.proofs.Common.{◌∙◌, ap, refl, sym}
 use Rattle.std.specs.Prelude.{◌≡◌, ◌+◌, ◌-◌, ◌<◌, ◌∷◌, Bool, List, Option, cond, false, filter, slice_get, suc, true, ℕ}
 use Rattle.std.specs.List.{range_with_len}
-
-range_first : (i n : ℕ) → i < n → range_with_len i (n - i) ≡ i ∷ range_with_len (i + 1) (n - (i + 1))
-range_first i n below =
-    let more : n - i ≡ suc (n - (i + 1)) = omega arith in
-    ap (range_with_len i) more
+use Rattle.request_facts.proofs.Posts.{range_first}
 
 given_first : (p : ℕ → Bool) (i n : ℕ) → i < n
     → filter p (range_with_len i (n - i)) ≡ cond (p i) (i ∷ filter p (range_with_len (i + 1) (n - (i + 1)))) (filter p (range_with_len (i + 1) (n - (i + 1))))

@@ -29,7 +29,7 @@ use Rattle.history_steps.specs.Nexts.{commit_in_process}
 use Rattle.history.specs.Kinds.{next_by}
 use Rattle.history.specs.declared.kinds.Listed.{Listed}
 use Rattle.history.specs.declared.kinds.Listed.TheVariants.{CommitsIn, Crashes, Ends, Exits, Heads, Locals, NavigationEnds, NavigationHops, Orders, Pieces, RequestHops}
-use Rattle.browser_core.specs.Candidates.{is_said}
+use Rattle.browser_tasks.specs.Candidates.{is_said}
 
 module _ (s : ScriptData) (h : List Entry) where
   pub quiet_open : (e : Entry) → open_next s h ≡ Some e → is_said e ≡ false

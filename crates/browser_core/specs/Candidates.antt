@@ -1,36 +1,15 @@
--- What may follow, before services are asked: an entry, or a message whose reply is still to be found. Own rules.
-use Rattle.std.specs.Prelude.{◌≡◌, ◌++◌, Bool, IfSome, List, Option, filter_map, false, option_map, slice_get, true}
+-- The first candidate of a history, in the order of the next entries. Own rules.
+use Rattle.std.specs.Prelude.{◌++◌, List, Option, filter_map, option_map, slice_get}
 use Rattle.std.specs.Option.{option_or, option_to_list}
 use Rattle.history_entry.specs.declared.entry.Entry.{Entry}
-use Rattle.history_entry.specs.declared.entry.Entry.TheVariants.{Said}
-use Rattle.service_rule.specs.Services.{ServiceRule}
 use Rattle.script_model.specs.ScriptData.{ScriptData}
 use Rattle.history_rules.specs.Documents.{documents}
 use Rattle.history_steps.specs.MayFollow.{open_next, warm_next}
 use Rattle.history_steps.specs.Nexts.{commit_nexts, crash_nexts, end_navigation_nexts, end_nexts, exit_nexts, head_nexts, hop_nexts, local_nexts, order_nexts, piece_nexts}
-use Rattle.history.specs.Sayings.{judged, saying_next}
+use Rattle.history.specs.Sayings.{saying_next}
 use Rattle.history.specs.declared.documents.Saying.{Saying}
-use Rattle.browser_core.specs.declared.candidate.Candidate.{Candidate}
-use Rattle.browser_core.specs.declared.candidate.Candidate.TheVariants.{Entry as Ready, Saying as Asks}
-
--- the entry is that of a message
-abbrev pub is_said : Entry → Bool
-is_said (Said p d k message reply) = true
-is_said _ = false
-
--- an entry that is no message, if there is one
-abbrev pub IsQuiet : Option Entry → Type 0
-IsQuiet first = IfSome first (λ e. is_said e ≡ false)
-
--- a candidate that is a message, or an entry that is none
-abbrev pub IsQuietCandidate : Candidate → Type 0
-IsQuietCandidate (Ready e) = is_said e ≡ false
-IsQuietCandidate (Asks saying) = Unit {0}
-
--- the entry that a candidate becomes
-abbrev pub entry_of : ServiceRule → ScriptData → List Entry → Candidate → Entry
-entry_of rule s h (Ready e) = e
-entry_of rule s h (Asks saying) = judged rule s h saying
+use Rattle.browser_tasks.specs.declared.candidate.Candidate.{Candidate}
+use Rattle.browser_tasks.specs.declared.candidate.Candidate.TheVariants.{Entry as Ready, Saying as Asks}
 
 -- the next entries before those of messages
 unfoldable pub before_messages : ScriptData → List Entry → List Entry

@@ -7,11 +7,13 @@ use Rattle.history_steps.specs.Run.{Legal}
 use Rattle.message_filter.specs.Asking.{Kept}
 use Rattle.script_model.specs.ScriptData.{ScriptData}
 use Rattle.service_rule.specs.Services.{ServiceRule}
+use Rattle.work_queue.specs.declared.task.TaskKey.{TaskKey}
 
--- a script with a history of it
+-- a script with a history of it, and the tasks that were handed out and have not ended, in the order of their claims
 pub record CoreData : Type 0 where
   pub script : ScriptData
   pub entries : List Entry
+  pub out : List TaskKey
 
 -- the services keep of each origin exactly what the history accepted of it
 abbrev pub KeepAllAccepted : Kept → List Entry → Type 0

@@ -8,9 +8,9 @@ ghost use Rattle.history_rules.specs.Requests.{requests};
 ghost use Rattle.history.specs.Kinds.{next_by};
 ghost use Rattle.history_steps.specs.Nexts as listing;
 ghost use Rattle.browser_core.specs.Candidates as candidates;
-ghost use Rattle.browser_core.specs.Candidates.{IsQuiet, IsQuietCandidate};
+ghost use Rattle.browser_tasks.specs.Candidates.{IsQuiet, IsQuietCandidate};
 
-use crate::candidate::Candidate;
+use browser_tasks::Candidate;
 use history::documents::{Saying, saying_next};
 use history::kinds::{Listed, next_by};
 use history::processes::{open_next, warm_next};

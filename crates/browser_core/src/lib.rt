@@ -2,16 +2,25 @@
 //!
 //! A [`Core`] holds a script, a history of it, and the services that its documents ask. Whatever is called, the history is legal
 //! under the services' rule, and the services keep exactly what it accepted. [`Core::first`] adds the first of the entries that
-//! may follow, so a core that is driven by it alone makes the run of one thread. The facts of the history are asked in one place,
-//! `facts`, and in the modules of `history` that say what may follow; they go through the list at each question.
+//! may follow, so a core that is driven by it alone makes the run of one thread, as [`run`] does. Workers ask for tasks by
+//! [`Core::claim`] and bring back what came of them by [`Core::apply`], in any order. The facts of the history are asked in
+//! `browser_tasks`, in `facts` here, and in the modules of `history` that say what may follow; they go through the list at each
+//! question.
 #![tactic(auto)]
 
-mod candidate;
+mod applying;
+mod claiming;
 mod facts;
 mod first;
+mod possible;
+mod running;
 mod state;
 mod steps;
 
+pub use applying::Applied;
+pub use browser_tasks::{ActDone, BrowserJob, Kind, LoadDone, Outcome, Step, Task, TaskKey};
 pub use history::{Entry, History};
 pub use origin_service::{Service, Store};
+pub use running::run;
 pub use state::Core;
+pub use work_queue::Claim;

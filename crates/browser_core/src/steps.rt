@@ -4,13 +4,13 @@ ghost use Rattle.std.specs.Prelude.{◌≡◌, ◌++◌, ◌∷◌, [], IfOk, On
 ghost use Rattle.std.specs.Option.{option_map, option_to_list};
 ghost use Rattle.history.specs.Sayings.{judged};
 ghost use Rattle.history_steps.specs.Run.{first_next};
-ghost use Rattle.browser_core.specs.Candidates.{IsQuietCandidate, entry_of};
+ghost use Rattle.browser_tasks.specs.Candidates.{IsQuietCandidate, entry_of};
 ghost use Rattle.browser_core.specs.Cores.{IsInStep, KeepAllAccepted};
 ghost use Rattle.history_steps.specs.ScriptLimits.{IsWithinLimits};
 
-use crate::candidate::Candidate;
 use crate::facts::HistoryFacts;
 use crate::first::first_candidate;
+use browser_tasks::Candidate;
 use history::documents::Saying;
 use history::{Entry, History, Roomy};
 use history_laws::script_is_within_limits;
@@ -42,7 +42,7 @@ fn judged<V: Service>(
 
 /// What a candidate becomes.
 #[tactic(auto, using(crate::proofs::Accepting::quiet_kept))]
-fn settled<V: Service>(
+pub(crate) fn settled<V: Service>(
     alloc: Global,
     facts: &PlainFacts<'_>,
     services: &mut V,

@@ -162,7 +162,8 @@ fn equal_bodies(a: &Body, b: &Body) -> bool
     }
 }
 
-fn equal_messages(a: &Message, b: &Message) -> bool
+/// Whether two messages are equal.
+pub fn equal_messages(a: &Message, b: &Message) -> bool
     ensures { IsTrue result ↔ (a.now ≡ b.now) }
 {
     a.document == b.document && equal_bodies(&a.body, &b.body)

@@ -17,7 +17,7 @@ mod text;
 
 pub use body::{Body, Message, Mode, Src, Target};
 pub use entry::{EndHow, Entry, EntryKind, HopOf, LocalWhat};
-pub use equal::equal_entries;
+pub use equal::{equal_entries, equal_messages};
 pub use piece::PieceBytes;
 pub use policy::Policy;
 pub use reply::Reply;

@@ -124,7 +124,7 @@ module _ (rule : ServiceRule) (s : ScriptData) (script : IsKeptScript s) (h : Li
         base = read_bytes (last_url chain) (last_read rule s g (legal_take rule s h i legal) r d.0 d.1);
       }
 
-  chain_read : (r : ℕ) → r < requests_made h → is_read_chain (request_chain h r) ≡ true
+  pub chain_read : (r : ℕ) → r < requests_made h → is_read_chain (request_chain h r) ≡ true
   unfolding is_read_chain request_chain request_maker
   chain_read r lt =
       let d = document_of h r lt in

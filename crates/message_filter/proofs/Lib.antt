@@ -2,4 +2,4 @@ pub mod Gains
 pub mod Made
 pub mod Compared
 pub mod Numbers
-pub mod Nothing
+pub mod Unasked

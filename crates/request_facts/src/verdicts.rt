@@ -64,9 +64,9 @@ fn push_read(alloc: Global, urls: &mut Vec<PageUrl>, text: &str) -> Result<bool,
     }
 }
 
-/// The URLs of a chain, where each names itself and is of class Web.
+/// The URLs of a chain, where each names itself and is of class Web; none where one doesn't.
 #[tactic(auto, using(crate::proofs::ReadSoFar::read_more, crate::proofs::ReadSoFar::read_stops, crate::proofs::ReadSoFar::read_whole))]
-fn read_chain(alloc: Global, chain: &Chain) -> Result<Option<Vec<PageUrl>>, NoMemory>
+pub fn read_chain(alloc: Global, chain: &Chain) -> Result<Option<Vec<PageUrl>>, NoMemory>
     ensures { IfOk result (λ urls. MatchOption urls (requests.is_read_chain chain.now ≡ false)
         (λ u. (requests.is_read_chain chain.now ≡ true) × (u.items ≡ chain.now) × IsWebChain u.items)) }
 {

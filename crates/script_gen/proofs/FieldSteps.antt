@@ -1,9 +1,9 @@
 -- One more header field of a response.
-use Rattle.std.proofs.Common.{◌≡◌, ◌≤◌, ℕ, Bool, List, [], ◌∷◌, ◌++◌, cond, false, true, length, refl, arith}
+use Rattle.std.proofs.Common.{◌≡◌, ◌≤◌, ℕ, Bool, [], ◌∷◌, ◌++◌, cond, false, true, length, refl, arith}
 use Rattle.std.specs.Prelude.{codes}
-use Rattle.http_header.specs.HeaderMap.{Entries, append, value_count}
+use Rattle.http_header.specs.HeaderMap.{append, value_count}
 use Rattle.http_header.specs.Token.{lowercase}
-use Rattle.script_gen.specs.Generated.{content_type, fields, has_nosniff, is_open, sniffed_fields, typed_fields}
+use Rattle.script_gen.specs.Generated.{fields, has_nosniff, is_open, sniffed_fields, typed_fields}
 
 pub few_typed : (response : ℕ) → length (typed_fields response) ≡ 1
 unfolding typed_fields

@@ -4,7 +4,6 @@ use Rattle.std.specs.Prelude.{◌+◌, ◌-◌, ◌*◌, ◌/◌, ◌%◌, ◌==
 use Rattle.std.specs.List.{range_with_len}
 use Rattle.http_header.specs.HeaderMap.{Entries}
 use Rattle.public_suffix.specs.Reading.{lines, rules_on}
-use Rattle.public_suffix.specs.RegistrableDomain.{SuffixRule}
 use Rattle.history_entry.specs.declared.body.Mode.{Mode}
 use Rattle.history_entry.specs.declared.body.Mode.TheVariants.{Cors, NoCors}
 use Rattle.history_entry.specs.declared.body.Src.TheVariants.{Url}

@@ -2,7 +2,6 @@
 
 ghost use Rattle.std.specs.Prelude.{◌≡◌, ◌++◌, ◌<◌, All, IfOk, OnOk, length, map};
 ghost use Rattle.std.specs.List.{range_with_len};
-ghost use Rattle.page_origin.specs.PageUrls.{class_of};
 ghost use Rattle.public_suffix.specs.Reading.{lines, rules_on};
 ghost use Rattle.script_gen.specs.Draws.{draws};
 ghost use Rattle.script_gen.specs.Generated as spec;

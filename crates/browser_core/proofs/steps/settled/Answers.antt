@@ -1,5 +1,5 @@
 use Rattle.std.proofs.Common.{subst}
-use Rattle.browser_core.specs.Candidates.{IsQuietCandidate}
+use Rattle.browser_tasks.specs.Candidates.{IsQuietCandidate}
 use Rattle.browser_core.proofs.Accepting.{quiet_kept}
 use Rattle.browser_core.proofs.steps.settled.Goals as goal
 

@@ -1,0 +1,11 @@
+pub mod KeptEntries
+pub mod Forms
+pub mod Jobs
+pub mod Hosting
+pub mod Acts
+pub mod Loads
+pub mod KeyNexts
+pub mod Below
+pub mod Choosing
+pub mod Holding
+pub mod OneNext
