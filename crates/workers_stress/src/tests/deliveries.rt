@@ -1,6 +1,7 @@
 //! What requests are delivered while workers run.
 
-use super::{SHOP, is_audited, run_text};
+use super::{SHOP, run_text};
+use crate::runs::is_audited;
 use browser_workers::NoGate;
 use std::alloc::Global;
 use std::sync::Wait;

@@ -4,8 +4,7 @@ mod beside;
 mod deliveries;
 mod standing;
 
-use browser_cli::{browse, browse_one};
-use browser_io::{MemSink, MemSource};
+use crate::runs;
 use browser_workers::Gate;
 use std::alloc::Global;
 use std::sync::Wait;
@@ -14,8 +13,6 @@ use std::thread::Threads;
 
 /// The most turns of a gate that holds a worker.
 const MOST_TURNS: u32 = 100_000_000;
-
-const STEP: usize = 4096;
 
 /// A shop page: an advertisement in a frame, a picture and a script of a cache, a font, data of its own, and storage.
 const SHOP: &str = r#"{"suffixes":"com\nnet\norg\nio\ndev\nuk\nco.uk\norg.uk\nac.uk\ngov.uk\nde\nfr\nes\nit\njp\nco.jp\nac.jp\nau\ncom.au\nnz\nco.nz\nbr\ncom.br\nin\nco.in\nza\nco.za\nck\n*.ck\n!www.ck",
@@ -32,14 +29,6 @@ const SHOP: &str = r#"{"suffixes":"com\nnet\norg\nio\ndev\nuk\nco.uk\norg.uk\nac
 {"url":"https://fonts.type.org/f","headers":[["Content-Type","font/woff2"],["Access-Control-Allow-Origin","*"]],"body":"F"},
 {"url":"https://www.shop.co.uk/cart","headers":[["Content-Type","application/json"]],"body":"{\"n\":1}"}]}"#;
 
-fn source_of(alloc: Global, input: &str) -> Result<MemSource, Fail> {
-    Ok(MemSource::new(
-        input.as_bytes().to_vec(alloc)?,
-        STEP,
-        Vec::new(alloc),
-    ))
-}
-
 /// The text that `run` writes with so many workers.
 fn run_text<R: Threads + Wait + Sync, G: Gate + Sync>(
     rt: &R,
@@ -48,35 +37,8 @@ fn run_text<R: Threads + Wait + Sync, G: Gate + Sync>(
     script: &str,
     gate: &G,
 ) -> Result<String, Fail> {
-    let mut source = source_of(alloc, script)?;
-    let mut sink = MemSink::new(alloc, STEP, STEP, Vec::new(alloc))?;
-    let status = browse(
-        rt,
-        alloc,
-        &["run", workers],
-        &mut source,
-        &mut sink,
-        gate,
-    );
-    if status.exit_code() != 0 {
-        return Err(Fail::new("run did not end with status 0"));
+    match runs::run_text(rt, alloc, workers, script, gate)? {
+        Some(text) => Ok(text),
+        None => Err(Fail::new("run did not end with status 0")),
     }
-    Ok(String::from_utf8_lossy(alloc, sink.written())?)
-}
-
-/// What `audit` writes of a script and a text.
-fn audit_text(alloc: Global, script: &str, text: &str) -> Result<String, Fail> {
-    let input = format!(in alloc; "script {}\n{script}{text}", script.len())?;
-    let mut source = source_of(alloc, input.as_str())?;
-    let mut sink = MemSink::new(alloc, STEP, STEP, Vec::new(alloc))?;
-    browse_one(alloc, &["audit"], &mut source, &mut sink);
-    Ok(String::from_utf8_lossy(alloc, sink.written())?)
-}
-
-/// Whether a text is that of a finished legal history of a script.
-fn is_audited(alloc: Global, script: &str, text: &str) -> Result<bool, Fail> {
-    let told = audit_text(alloc, script, text)?;
-    let entries = text.lines().count().saturating_sub(1);
-    let legal = format!(in alloc; "legal {entries}\n")?;
-    Ok(told.as_str() == legal.as_str())
 }
