@@ -1,9 +1,9 @@
 #!/usr/bin/env bash
-# Want of memory of a core, outside the gate: of the built rows of `core_rows` allocation 1, 2, 3 .. fails, until they make no more. A
+# Want of memory of a core, outside the gate: of each built test of `core_rows` allocation 1, 2, 3 .. fails, until it makes no more. A
 # call of the core that finds no memory is made once more by its row, and must then come out as the row says; anything else that finds
-# none ends its row with that answer. So each time the rows must pass, or fail for want of memory alone. A word is a limit of
-# allocations, for a quick look: rows that make more then count as a failure. Where no C compiler is there, nothing is checked, and the
-# status is 77. The last line is 'N passed, M failed'.
+# none ends its row with that answer. So each time the test must pass, or fail for want of memory alone. A word is a limit of
+# allocations, for a quick look: a test that makes more then counts as a failure. Where no C compiler is there, nothing is checked, and
+# the status is 77. The last line is 'N passed, M failed'.
 set -u
 top=$(cd "$(dirname "${BASH_SOURCE[0]}")/.." && pwd)
 limit=${1:-1000000}
@@ -20,26 +20,34 @@ trap 'rm -rf "$room"' EXIT
 cc -O2 -shared -fPIC -o "$room/fail_alloc.so" "$top/tests/fail-alloc/fail_alloc.c" || exit 1
 passed=0
 failed=0
-for ((number = 1; number <= limit; number++)); do
-  rm -f "$room/mark"
-  FAIL_ALLOC=$number FAIL_ALLOC_MARK=$room/mark LD_PRELOAD=$room/fail_alloc.so "$rows" >"$room/output" 2>&1
-  status=$?
-  if [ ! -f "$room/mark" ]; then break; fi
-  if [ "$status" = 0 ] || ! grep -q "the step of\|assertion" "$room/output"; then
-    passed=$((passed + 1))
-  else
-    failed=$((failed + 1))
-    echo "want of memory of a core: allocation $number: status $status"
-    sed 's/^/  /' "$room/output" | head -5
-  fi
-done
-if [ "$number" -gt "$limit" ]; then
+
+# Counts a failure, and tells what failed.
+fail() {
   failed=$((failed + 1))
-  echo "want of memory of a core: only the first $limit allocations were tried"
-fi
-if [ "$number" = 1 ]; then
-  failed=$((failed + 1))
-  echo "want of memory of a core: no allocation was met"
-fi
+  echo "want of memory of a core: $1"
+}
+
+# Fails one allocation of a test after another, until none is met.
+fail_each() {
+  local number status
+  for ((number = 1; number <= limit; number++)); do
+    rm -f "$room/mark"
+    FAIL_ALLOC=$number FAIL_ALLOC_MARK=$room/mark LD_PRELOAD=$room/fail_alloc.so "$rows" "$1" >"$room/output" 2>&1
+    status=$?
+    if [ ! -f "$room/mark" ]; then break; fi
+    if [ "$status" = 0 ] || ! grep -q "the step of\|assertion" "$room/output"; then
+      passed=$((passed + 1))
+    else
+      fail "$1, allocation $number: status $status"
+      sed 's/^/  /' "$room/output" | head -5
+    fi
+  done
+  if [ "$number" -gt "$limit" ]; then fail "$1: only the first $limit allocations were tried"; fi
+  if [ "$number" = 1 ]; then fail "$1: no allocation was met"; fi
+}
+
+tests=$("$rows" --list | sed -n 's/: test$//p')
+if [ -z "$tests" ]; then fail "no test was found"; fi
+for test in $tests; do fail_each "$test"; done
 echo "$passed passed, $failed failed"
 [ "$failed" = 0 ]
