@@ -38,7 +38,7 @@ none_there (x ∷ xs) (suc i) is = let le = none_there xs i is in omega (arith, 
 not_of : (b : Bool) → b ≡ false → not b ≡ true
 not_of b is = ap not is
 
-none_is : {A : Type 0} (o : Option A) → is_none o ≡ not (is_some o)
+pub none_is : {A : Type 0} (o : Option A) → is_none o ≡ not (is_some o)
 none_is None = refl
 none_is (Some x) = refl
 
