@@ -6,7 +6,7 @@ use browser_io::ScriptWire;
 use script_model::Resource;
 
 /// A wire that carries the body of a resource, in the pieces in which it comes. It fails after them where the resource's does.
-#[tactic(auto, using(crate::proofs::WirePieces::same_pieces, crate::proofs::WirePieces::cuts_rise, crate::proofs::WirePieces::sent_within))]
+#[tactic(auto, using(crate::proofs::WirePieces::sent_within))]
 pub fn wire_of(resource: &Resource) -> ScriptWire<'_>
     ensures { result ≡ record { left = pieces resource.now; fails = is_some resource.now.fail_after; faults = 0 } }
 {
