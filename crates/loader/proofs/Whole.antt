@@ -1,6 +1,6 @@
 -- What a step says of the whole response, from what it says of the pieces that were taken.
-use Rattle.std.proofs.Common.{ap, append-nil, refl, subst, sym, ◌∙◌}
-use Rattle.std.specs.Prelude.{◌≡◌, ◌++◌, ◌∷◌, [], Bool, List, None, Option, Some, false, is_some, length, not, slice_get, suc, true, ⊤, ℕ}
+use Rattle.std.proofs.Common.{ap, append-nil, refl, sym, ◌∙◌}
+use Rattle.std.specs.Prelude.{◌≡◌, ◌++◌, ◌∷◌, [], Bool, List, None, Option, Some, false, is_some, length, not, slice_get, true, ℕ}
 use Rattle.std.proofs.lemmas.List.Concat.{flat_map-append}
 use Rattle.script_model.proofs.Rows.{verdict_stays}
 use Rattle.script_model.specs.declared.verdict.Verdict.{Verdict}
@@ -9,8 +9,8 @@ use Rattle.read_verdict.specs.Cases.{Case, verdict_on}
 use Rattle.read_verdict.specs.ClearedData.{ClearedData}
 use Rattle.read_verdict.specs.declared.step.Step.{Step}
 use Rattle.read_verdict.specs.declared.step.Step.TheVariants.{Held, Head, Piece, Whole, Blocked, Fault, Gone}
-use Rattle.loader.specs.Loads.{HasLoaded, IsLeave, IsWireOf, bytes_of, taken}
-use Rattle.loader.specs.Steps.{GoesOn, out_after}
+use Rattle.loader.specs.Loads.{IsWireOf, bytes_of, taken}
+use Rattle.loader.specs.Steps.{GoesOn}
 use Rattle.loader.specs.Whole.{IsStepOver, Moment, SaysOfWhole, StepsSayOfWhole, headed_after, is_headed}
 use Rattle.loader.specs.declared.progress.Progress.{Progress}
 
@@ -78,10 +78,10 @@ module _ (m : Moment) (old new : Progress) (before left : List (List ℕ)) where
   says (Head cleared) over =
       (unheaded over.headed over.says.0, over.says.2.request, whole_verdict m.out (Allow cleared.rule) over.wire over.says.2.verdict)
   says (Piece part) over = (
-      headed_by part.cleared over.headed over.says.0,
-      over.says.4.request,
-      over.says.2,
-      ap (λ pieces. slice_get pieces (length m.out)) (sym over.wire.pieces) ∙ at_seam m.out new.held.items left part.bytes,
+    headed_by part.cleared over.headed over.says.0,
+    over.says.4.request,
+    over.says.2,
+    ap (λ pieces. slice_get pieces (length m.out)) (sym over.wire.pieces) ∙ at_seam m.out new.held.items left part.bytes,
   )
   says Whole over =
       let end = over.wire.end over.says.2 in

@@ -1,7 +1,7 @@
 use Rattle.std.proofs.Common.{ap, subst, sym, ◌∙◌}
 use Rattle.std.specs.Option.{is_some}
 use Rattle.std.specs.Prelude.{◌≡◌, List, length, ℕ}
-use Rattle.browser_io.specs.Scripted.{IsCutFrom, ScriptedWire, pieces_of}
+use Rattle.browser_io.specs.Scripted.{IsCutFrom, pieces_of}
 use Rattle.script_model.specs.Pieces.{pieces}
 use Rattle.script_model.specs.ResourceData.{ResourceData}
 use Rattle.loader.proofs.WirePieces.{cuts_rise, same_pieces}
