@@ -42,7 +42,7 @@ gone_comes_back rule h load gone =
       place = gone.stands.place;
       within = gone.stands.within;
       could = record { entry = next.entry; is_of = (gone_step load.task.request next.entry next.is_of, tt); follows = next.follows };
-      vouched = (tt, length h, subst (λ (k : List Entry). IsHostDead k load.task.request) (sym (take-length h)) (host_dead rule h load gone));
+      vouched = (tt, (length h, subst (λ (k : List Entry). IsHostDead k load.task.request) (sym (take-length h)) (host_dead rule h load gone)));
     }
 
 pub gone_is_too_late : (rule : ServiceRule) → GoneIsTooLate rule

@@ -66,7 +66,7 @@ head_entry r cleared e is = absurd is
 
 piece_entry : (r : ℕ) (part : Part) (e : Entry) → IsOfStep r (Piece part) e → e ≡ PieceEntry r part.index part.bytes
 piece_entry r part (HeadEntry q why) is = absurd is.1
-piece_entry r part (PieceEntry q i bytes) is = ap (λ x. PieceEntry x i bytes) is.0 ∙ ap (λ j. PieceEntry r j bytes) is.1 ∙ ap (PieceEntry r part.index) is.2
+piece_entry r part (PieceEntry q i bytes) is = ap (λ x. PieceEntry x i bytes) is.0 ∙ ap (λ j. PieceEntry r j bytes) is.1.0 ∙ ap (PieceEntry r part.index) is.1.1
 piece_entry r part (EndEntry q how) is = absurd is.1
 piece_entry r part e is = absurd is
 
@@ -137,7 +137,7 @@ module _ {E : Type 0} (old : TaskLoad) (load : Load) (wire : ScriptedWire) (step
   }
   could_by (Piece part) so tells = record {
     entry = PieceEntry r part.index part.bytes;
-    is_of = ((refl, refl, refl), stands.by_load);
+    is_of = ((refl, (refl, refl)), stands.by_load);
     follows = subst (λ i. MayFollow rule s h (PieceEntry r i part.bytes)) (stands.count ∙ sym so.2)
         (piece_follows rule h old stands part.bytes so.0 (ap (λ i. slice_get all i) stands.count ∙ so.3));
   }

@@ -5,7 +5,6 @@ ghost use Rattle.std.specs.Option.{option_copied};
 ghost use Rattle.cors_check.specs.Chains.{IsWebChain};
 ghost use Rattle.history_rules.specs.Redirects.{last_url, response};
 ghost use Rattle.history_rules.specs.Responses.{absent};
-ghost use Rattle.page_origin.specs.PageUrls.{key_of};
 ghost use Rattle.read_verdict.specs.HasJudged.{HasJudged};
 ghost use Rattle.script_model.specs.Pieces.{pieces};
 ghost use Rattle.task_work.specs.Claimed.{case_of};
@@ -14,6 +13,7 @@ use http::StatusCode;
 use http_header::HeaderMap;
 use loader::{Judge, Load, ScriptWire, Step, empty_wire, wire_of};
 use mime_kind::Head;
+use page_origin::key_of_text;
 use script_model::{NoMemory, PageUrl, Resource, Script, find};
 use std::alloc::Global;
 use work_queue::LoadTask;
@@ -30,12 +30,13 @@ pub struct TaskLoad<'a> {
     wire: ScriptWire<'a>,
 }
 
-/// The key of the last URL of a chain.
-fn last_key(chain: &[PageUrl]) -> &str
-    ensures { result.now ≡ key_of (last_url chain.now) }
+/// The last URL of a chain.
+#[tactic(auto, using(request_facts::proofs::LastUrl::last_url_is))]
+fn last_text(chain: &[PageUrl]) -> &str
+    ensures { result.now ≡ last_url chain.now }
 {
     match chain.last() {
-        Some(url) => url.key(),
+        Some(url) => url.text(),
         None => "",
     }
 }
@@ -44,7 +45,7 @@ fn last_key(chain: &[PageUrl]) -> &str
 fn last_resource<'a>(script: &'a Script, chain: &[PageUrl]) -> Option<&'a Resource>
     ensures { unwrap_or (option_copied result) (absent (last_url chain.now)) ≡ response script.now chain.now }
 {
-    find(script, last_key(chain))
+    find(script, key_of_text(last_text(chain)))
 }
 
 /// The judge of the response to a load.
@@ -80,6 +81,7 @@ fn judge_of(
 }
 
 /// The wire of a resource, or of nothing where the script has none.
+#[tactic(auto, unfolding(script_model::specs::Pieces::pieces))]
 fn wire_at<'a>(resource: Option<&'a Resource>) -> ScriptWire<'a>
     ensures { (url : List ℕ) → let r = unwrap_or (option_copied resource.entry) (absent url) in
         result ≡ record { left = pieces r; fails = is_some r.fail_after; faults = 0 } }
