@@ -3,9 +3,9 @@ use Rattle.std.proofs.Common.{ap, refl, subst, sym, ◌∙◌}
 use Rattle.std.specs.Prelude.{◌≡◌, ◌&&◌, List, Some, option_and_then, option_map, slice_get, true, ℕ}
 use Rattle.std.specs.Option.{option_map_or}
 use Rattle.history_entry.specs.declared.entry.Entry.{Entry}
-use Rattle.history_entry.specs.declared.entry.Entry.TheVariants.{Commit, Crash, End, Exit, Head, Hop, Local, NavEnd, Opened, Order, Piece, Said, Warm}
+use Rattle.history_entry.specs.declared.entry.Entry.TheVariants.{Crash, Local, Said}
 use Rattle.history_entry.specs.declared.entry.LocalWhat.{LocalWhat}
-use Rattle.history_entry.specs.declared.entry.LocalWhat.TheVariants.{Skipped, Took, Waited}
+use Rattle.history_entry.specs.declared.entry.LocalWhat.TheVariants.{Took, Waited}
 use Rattle.history_rules.proofs.Apart.{from_cond, from_else, from_map, from_then, some_same}
 use Rattle.history_rules.specs.Actions.{act_in}
 use Rattle.history_rules.specs.Documents.{actions_done, hosted, is_current, process_of}

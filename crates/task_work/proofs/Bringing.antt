@@ -1,8 +1,8 @@
 -- What may be brought back to a history may be to each that goes on from it.
-use Rattle.std.proofs.Common.{arith, inl, inr, length-append, refl, subst, sym, ◌∙◌}
+use Rattle.std.proofs.Common.{arith, inl, inr, length-append, subst, sym, ◌∙◌}
 use Rattle.std.proofs.Math.Seq.{take-length}
 use Rattle.std.proofs.lemmas.Bool.{cases_lt}
-use Rattle.std.specs.Prelude.{◌≡◌, ◌≤◌, ◌++◌, List, length, take, ⊤, ℕ}
+use Rattle.std.specs.Prelude.{◌++◌, List, length, take, ℕ}
 use Rattle.history_entry.specs.declared.entry.Entry.{Entry}
 use Rattle.read_verdict.specs.declared.step.Step.{Step}
 use Rattle.read_verdict.specs.declared.step.Step.TheVariants.{Blocked, Fault, Gone, Head, Held, Piece, Whole}

@@ -1,10 +1,10 @@
 -- A task that was ready, and holds the facts of its history, is one of the history.
 use Rattle.std.proofs.Common.{ap, sym, ◌∙◌}
-use Rattle.std.specs.Prelude.{◌≡◌, ◌++◌, ◌∷◌, [], List, true, ℕ}
+use Rattle.std.specs.Prelude.{◌++◌, ◌∷◌, [], List}
 use Rattle.std.specs.List.{AllByRecursion}
 use Rattle.entry_reading.specs.Entries.{IsEntry}
 use Rattle.history_entry.specs.declared.entry.Entry.{Entry}
-use Rattle.history_rules.specs.Requests.{is_read_chain, request_chain}
+use Rattle.history_rules.specs.Requests.{is_read_chain}
 use Rattle.history_steps.specs.MayFollow.{MayFollow}
 use Rattle.history_steps.specs.Run.{Legal}
 use Rattle.kept_entries.proofs.NamedChains.{chain_read}

@@ -1,7 +1,7 @@
 -- Where the process of a load is dead, that it is gone may be brought back, and comes too late for every entry of its request.
 use Rattle.std.proofs.Common.{subst, sym}
 use Rattle.std.proofs.Math.Seq.{take-length}
-use Rattle.std.specs.Prelude.{◌≡◌, List, Some, length, take, ⊤, ℕ}
+use Rattle.std.specs.Prelude.{◌≡◌, List, Some, length, take, ℕ}
 use Rattle.history_entry.specs.declared.entry.Entry.{Entry}
 use Rattle.history_entry.specs.declared.entry.Entry.TheVariants.{End, Head, Piece}
 use Rattle.history_rules.proofs.Apart.{from_then}

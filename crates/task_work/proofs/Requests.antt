@@ -13,7 +13,7 @@ use Rattle.history_entry.specs.declared.rule.Rule.{Rule}
 use Rattle.history_rules.proofs.Apart.{and_both, and_left, and_right, from_else, not_false, or_false, some_same}
 use Rattle.history_rules.proofs.Growth.{any_still}
 use Rattle.history_rules.specs.Documents.{hosted, is_current, is_present, process_of}
-use Rattle.history_rules.specs.Entries.{accepted, body_makes_request, makes_request}
+use Rattle.history_rules.specs.Entries.{body_makes_request, makes_request}
 use Rattle.history_rules.specs.Frames.{frame_of, navigations_made, was_made}
 use Rattle.history_rules.specs.Judgement.{is_did_commit}
 use Rattle.history_rules.specs.Redirects.{hop_url, is_redirect, is_spent, is_web, joined_url, response}

@@ -1,8 +1,8 @@
 -- A load that stands within a history, and each that goes on from it.
-use Rattle.std.proofs.Common.{ap, arith, length-append, refl, subst, sym, ◌∙◌}
+use Rattle.std.proofs.Common.{ap, arith, length-append, subst, sym, ◌∙◌}
 use Rattle.std.proofs.Math.Seq.{take-length}
 use Rattle.std.proofs.lemmas.List.{take-append-drop}
-use Rattle.std.specs.Prelude.{◌≡◌, ◌++◌, ◌∷◌, [], List, drop, length, take, ⊤, ℕ}
+use Rattle.std.specs.Prelude.{◌≡◌, ◌++◌, ◌∷◌, [], List, drop, length, take, ℕ}
 use Rattle.history_entry.specs.declared.entry.Entry.{Entry}
 use Rattle.history_steps.specs.MayFollow.{MayFollow}
 use Rattle.history_steps.specs.Run.{Legal}
@@ -12,9 +12,8 @@ use Rattle.service_rule.specs.Services.{ServiceRule}
 use Rattle.browser_tasks.specs.Outcomes.{IsEntryOf, IsGoneFor}
 use Rattle.task_work.proofs.Prefixes.{take_front}
 use Rattle.task_work.specs.Laws.{HeldStays, LoadsGoOn, StandingStays, StepsComeBack}
-use Rattle.task_work.specs.Stands.{StandsAt, StandsWithin, script_of}
-use Rattle.task_work.specs.Steps.{StepsFrom, TellsResponse, outcome_of}
-use Rattle.task_work.specs.declared.load.TaskLoad.{TaskLoad}
+use Rattle.task_work.specs.Stands.{StandsAt, script_of}
+use Rattle.task_work.specs.Steps.{TellsResponse, outcome_of}
 
 pub standing_stays : (rule : ServiceRule) → StandingStays rule
 standing_stays rule h more load stands =

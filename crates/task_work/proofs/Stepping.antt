@@ -1,7 +1,7 @@
 -- A step of a load, at a history at which the load stands.
 use Rattle.std.proofs.Common.{ap, arith, inl, inr, length-append, refl, subst, sym, ◌∙◌}
 use Rattle.std.proofs.lemmas.Bool.{eq-eqb}
-use Rattle.std.specs.Prelude.{◌≡◌, ◌≤◌, ◌+◌, ◌++◌, ◌∷◌, [], Bool, Err, IfOk, List, None, Ok, Option, Result, Some, cond, false, is_some, length, not, slice_get, take, true, ⊤, ℕ}
+use Rattle.std.specs.Prelude.{◌≡◌, ◌≤◌, ◌+◌, ◌++◌, ◌∷◌, [], Bool, Err, IfOk, List, None, Ok, Option, Result, Some, cond, false, is_some, length, not, slice_get, take, true, ℕ}
 use Rattle.browser_io.specs.Scripted.{ScriptedWire}
 use Rattle.browser_io.specs.Wires.{IsUsedUp}
 use Rattle.history_entry.specs.declared.entry.EndHow.{EndHow}
@@ -31,14 +31,13 @@ use Rattle.read_verdict.specs.ClearedData.{ClearedData}
 use Rattle.read_verdict.specs.declared.part.Part.{Part}
 use Rattle.read_verdict.specs.declared.step.Step.{Step}
 use Rattle.read_verdict.specs.declared.step.Step.TheVariants.{Blocked, Fault, Gone, Head, Held, Piece, Whole}
-use Rattle.script_model.specs.Pieces.{has_ended, pieces}
+use Rattle.script_model.specs.Pieces.{pieces}
 use Rattle.script_model.specs.ResourceData.{fails_at_once}
 use Rattle.script_model.specs.ScriptData.{ScriptData}
 use Rattle.script_model.specs.declared.verdict.Verdict.{Verdict}
 use Rattle.script_model.specs.declared.verdict.Verdict.TheVariants.{Allow, Block}
 use Rattle.service_rule.specs.Services.{ServiceRule}
-use Rattle.browser_tasks.specs.Objects.{is_taken_at_once}
-use Rattle.browser_tasks.specs.Outcomes.{CanFollow, IsCleared, IsEntryOf, IsOfStep, has_more}
+use Rattle.browser_tasks.specs.Outcomes.{CanFollow, IsCleared, IsOfStep, has_more}
 use Rattle.browser_tasks.specs.TaskData.{HoldsLoad}
 use Rattle.task_work.proofs.Following.{blocked_follows, head_follows, none_is, open_follows, piece_follows, verdict_is, wire_end_follows}
 use Rattle.task_work.proofs.Prefixes.{longer, take_twice}

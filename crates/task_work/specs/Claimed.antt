@@ -1,5 +1,5 @@
 -- What is known of a task that a worker claimed. Own rules.
-use Rattle.std.specs.Prelude.{◌≡◌, List, true, ⊤, ℕ}
+use Rattle.std.specs.Prelude.{◌≡◌, List, true, ⊤}
 use Rattle.history_entry.specs.declared.entry.Entry.{Entry}
 use Rattle.history_rules.specs.Redirects.{response}
 use Rattle.history_rules.specs.Requests.{is_read_chain}

@@ -15,7 +15,7 @@ use Rattle.browser_tasks.specs.Outcomes.{CanFollow, CannotFollow, IsEntryOf, IsO
 use Rattle.browser_tasks.specs.declared.outcome.Outcome.{Outcome}
 use Rattle.browser_tasks.specs.declared.outcome.Outcome.TheVariants as outcomes
 use Rattle.task_work.specs.Claimed.{IsTaskOf}
-use Rattle.task_work.specs.Stands.{StandsAt, StandsWithin, script_of}
+use Rattle.task_work.specs.Stands.{StandsWithin, script_of}
 use Rattle.task_work.specs.Steps.{StepsFrom, TellsResponse, outcome_of}
 use Rattle.task_work.specs.declared.load.TaskLoad.{TaskLoad}
 

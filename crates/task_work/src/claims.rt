@@ -27,7 +27,6 @@ fn entries_are_kept(entries: &[Entry])
 
 /// Says that a task that was ready at a legal history, and holds its facts, is one of the history: the URLs of a load name themselves.
 /// It only looks at the script and the entries.
-#[tactic(auto, using(crate::proofs::Claiming::task_is_of))]
 pub fn claim_is_read(script: &Script, entries: &[Entry], _task: &Task)
     ensures { (rule : ServiceRule) (out : List TaskKey) → Legal rule script.now entries.now → HoldsFacts script.now entries.now _task.now
         → IsReady rule script.now entries.now out (key_of _task.now) → IsTaskOf rule script.now entries.now _task.now }
