@@ -1,8 +1,9 @@
 //! Tasks that a core handed out, and what came of them.
 
 ghost use Rattle.std.specs.Prelude.{◌≡◌, IfOk};
+ghost use Rattle.task_work.specs.Claimed.{IsClaimed};
 
-use crate::{Step, Task, TaskLoad, act_done, claim_is_read};
+use crate::{ActDone, Step, Task, TaskLoad, act_done, claim_is_read};
 use browser_core::{Claim, Core, Kind, Store};
 use history_entry::{Body, Message};
 use history_rules::Act;
@@ -10,7 +11,6 @@ use script_input::read_script;
 use script_model::Script;
 use std::alloc::{AllocError, Global};
 use std::test::Fail;
-use work_queue::ActTask;
 
 /// A core with the first so many entries of the run of one thread.
 fn core_after<'a>(alloc: Global, script: &'a Script, count: u32) -> Result<Core<'a, Store>, Fail>
@@ -23,31 +23,32 @@ fn core_after<'a>(alloc: Global, script: &'a Script, count: u32) -> Result<Core<
     Ok(core)
 }
 
-/// The load that a core hands out.
-fn claimed_load<'a>(
+/// What a core hands out to a worker of a kind.
+fn claimed<'a>(
     alloc: Global,
     script: &'a Script,
-    core: &mut Core<'_, Store>,
-) -> Result<TaskLoad<'a>, Fail>
-    requires { core.old.script ≡ script.now }
+    mut core: Core<'a, Store>,
+    kind: Kind,
+) -> Result<Task, Fail>
+    requires { core.script ≡ script.now }
+    ensures { IfOk result (IsClaimed script.now) }
 {
-    match core.claim(alloc, Kind::Loader)? {
+    match core.claim(alloc, kind)? {
         Claim::Task(task) => {
             claim_is_read(script, core.history().entries(), &task);
-            match task {
-                Task::Load(task) => Ok(TaskLoad::new(alloc, script, task)?),
-                _ => Err(Fail::new("no load is ready")),
-            }
+            Ok(task)
         }
         Claim::None(_) => Err(Fail::new("no task is ready")),
     }
 }
 
-/// The act that a core hands out.
-fn claimed_act(alloc: Global, core: &mut Core<'_, Store>) -> Result<ActTask, Fail> {
-    match core.claim(alloc, Kind::Renderer)? {
-        Claim::Task(Task::Act(task)) => Ok(task),
-        _ => Err(Fail::new("no act is ready")),
+/// The load of a task that is one.
+fn load_of(alloc: Global, script: &Script, task: Task) -> Result<TaskLoad<'_>, Fail>
+    requires { IsClaimed script.now task }
+{
+    match task {
+        Task::Load(task) => Ok(TaskLoad::new(alloc, script, task)?),
+        _ => Err(Fail::new("the task is a load")),
     }
 }
 
@@ -82,8 +83,9 @@ fn write_step(out: &mut String, step: &Step) -> Result<bool, AllocError> {
 
 /// The steps of the load of a script's first request, to its end. At the step with this number the process that asked is dead.
 fn steps(alloc: Global, script: &Script, gone_at: Option<u32>) -> Result<String, Fail> {
-    let mut core = core_after(alloc, script, 4)?;
-    let mut load = claimed_load(alloc, script, &mut core)?;
+    let core = core_after(alloc, script, 4)?;
+    let task = claimed(alloc, script, core, Kind::Loader)?;
+    let mut load = load_of(alloc, script, task)?;
     let mut out = String::new(alloc);
     for number in 0..20 {
         let step = load.step(alloc, gone_at == Some(number))?;
@@ -139,12 +141,19 @@ fn loads_step_to_an_end(rt: HostRuntime) -> Result<(), Fail> {
     Ok(())
 }
 
+/// What the act of a script's first document comes to.
+fn first_act(alloc: Global, script: &Script) -> Result<ActDone, Fail> {
+    let core = core_after(alloc, script, 3)?;
+    match claimed(alloc, script, core, Kind::Renderer)? {
+        Task::Act(task) => Ok(act_done(alloc, script, &task)?),
+        _ => Err(Fail::new("the task is an act")),
+    }
+}
+
 #[test]
 fn an_act_comes_to_its_message(rt: HostRuntime) -> Result<(), Fail> {
     let script = read_script(rt.alloc(), HELLO.as_bytes())?;
-    let mut core = core_after(rt.alloc(), &script, 3)?;
-    let task = claimed_act(rt.alloc(), &mut core)?;
-    let done = act_done(rt.alloc(), &script, &task)?;
+    let done = first_act(rt.alloc(), &script)?;
     assert_eq!(rt; (done.document, done.action), (0, 0));
     let fetches = matches!(
         done.act,
