@@ -1,5 +1,5 @@
 use Rattle.std.proofs.Common.{subst, sym, ◌∙◌}
-use Rattle.std.specs.Prelude.{◌≡◌, List, ℕ}
+use Rattle.std.specs.Prelude.{◌≡◌, List}
 use Rattle.history_entry.specs.declared.entry.Entry.{Entry}
 use Rattle.history_steps.specs.Run.{Legal}
 use Rattle.script_model.specs.ScriptData.{ScriptData}
