@@ -26,7 +26,7 @@ HERE = pathlib.Path(__file__).resolve().parent
 TOP = HERE.parent.parent
 PAGE = TOP / "docs" / "CHROMIUM.md"
 # Longer than a run takes, and one with the report; what is still waiting then ends as a failure with a name.
-ALL_SECONDS = 180
+ALL_SECONDS = 900
 REPORT_SECONDS = 3600
 FAULTS = (BrowserGone, CallFailed, NoHistory, OutOfTime, subprocess.SubprocessError)
 
