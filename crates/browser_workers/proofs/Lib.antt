@@ -1,5 +1,5 @@
 pub mod Passes
-pub mod Bringing
+pub mod Booking
 pub mod Loads
 pub mod Seats
 pub mod Over

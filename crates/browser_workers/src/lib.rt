@@ -8,6 +8,7 @@
 
 mod asking;
 mod bench;
+mod claims;
 mod core_book;
 mod gate;
 mod load_work;

@@ -1,2 +1,4 @@
 pub mod Claimed
-pub mod Loading
+pub mod Stands
+pub mod Steps
+pub mod Laws
