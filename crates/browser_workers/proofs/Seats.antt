@@ -60,3 +60,24 @@ module _ (rule : ServiceRule) (s : ScriptData) where
   -- what begins with a finished history goes on to do so
   pub still_finished : (h k : List Entry) → StartsWith k h → BeginsFinished rule s h → BeginsFinished rule s k
   still_finished h k longer begins = record { front = begins.front; finished = begins.finished; begins = starts_with_start begins.front h k begins.begins longer }
+
+-- ---- one place is taken out of the list
+
+-- what is known of it, and of those that are left
+pub record TakesOut (rule : ServiceRule) (s : ScriptData) (desk : TableId) (all rest : List Seat) (x : Seat) : Type 0 where
+  pub seats : AreSeats rule s desk rest
+  pub is : IsSeat rule s desk x
+  pub weight : x.pass.weight + weights rest ≡ weights all
+  pub seen : (h : List Entry) → HaveSeen h all → StartsWith x.pass.seen h
+
+pub takes_out : (rule : ServiceRule) (s : ScriptData) (desk : TableId) (all rest : List Seat) (x : Seat) → all ≡ rest ++ x ∷ [] → AreSeats rule s desk all → TakesOut rule s desk all rest x
+takes_out rule s desk all rest x is seats =
+    let each = each_less (IsSeat rule s desk) rest x (subst (AreSeats rule s desk) is seats) in record {
+      seats = each.0;
+      is = each.1;
+      weight = (let sum = weights_more rest x in let same : weights all ≡ weights (rest ++ x ∷ []) = ap weights is in omega (arith, sum, same));
+      seen = λ h seen. (each_less (λ (seat : Seat). StartsWith seat.pass.seen h) rest x (subst (HaveSeen h) is seen)).1;
+    }
+
+pub takes_out_some : (rule : ServiceRule) (s : ScriptData) (desk : TableId) (seats : List Seat) → 0 < weights seats → seats ≡ [] → ⊥
+takes_out_some rule s desk seats some none = (let zero : weights seats ≡ 0 = ap weights none in omega (arith, zero, some))

@@ -84,7 +84,6 @@ impl<'d, 'a, V: Service, J: Named> Bench for Table<'d, 'a, V, J> {
         self.script
     }
 
-    #[tactic(auto, using(crate::proofs::Passes::acted, crate::proofs::Passes::was_told))]
     fn ask<R: Wait>(&self, rt: &R, pass: &mut Pass<Entry>, ask: Ask) -> Result<Told, NoMemory> {
         self.desk.act(rt, pass, ask)
     }

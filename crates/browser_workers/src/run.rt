@@ -73,6 +73,11 @@ fn run_named<'a, V: Service + Drop + Send, J: Named + Send + Sync, G: Gate + Syn
                 short: AtomicBool::new(false),
             };
             let (pass, finished) = work_all(rt, alloc, &table, gate, workers, seats, pass);
+            let Table {
+                desk: _,
+                script: _,
+                short: _,
+            } = table;
             let core = desk.close(pass).into_core();
             finished_core(core, finished)
         }

@@ -11,6 +11,8 @@ use Rattle.read_verdict.specs.declared.step.Step.TheVariants as steps
 use Rattle.browser_tasks.specs.Outcomes.{CanFollow, IsGoneFor, IsHostDead, IsOutcome, IsVouched}
 use Rattle.browser_tasks.specs.declared.outcome.Outcome.{Outcome}
 use Rattle.browser_tasks.specs.declared.outcome.Outcome.TheVariants as outcomes
+use Rattle.task_work.specs.Steps.{StepsFrom}
+use Rattle.task_work.specs.declared.load.TaskLoad.{TaskLoad}
 use Rattle.task_work.specs.Laws.{GoneComesBack, GoneIsTooLate, HeldStays, JobsCanFollow, LoadsGoOn, NowBringsBack, OutcomesStay, StandingStays, StepsComeBack}
 
 -- a beginning of a list is one of each longer list
@@ -65,3 +67,6 @@ gone_comes_back rule h load gone = absurd gone.stands.at.never
 
 pub gone_is_too_late : (rule : ServiceRule) → GoneIsTooLate rule
 gone_is_too_late rule h load gone = absurd gone.stands.at.never
+
+pub steps_from : (old new : TaskLoad) (step : Step) → StepsFrom old new step
+steps_from old new step = λ rule h at. absurd at.never

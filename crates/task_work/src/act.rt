@@ -22,6 +22,8 @@ pub fn act_done(alloc: Global, script: &Script, task: &ActTask) -> Result<ActDon
     ensures could { IfOk result (λ done. (rule : ServiceRule) (h : List Entry) →
         IsTaskOf rule script.now h (ActTaskOf task.now) → CanFollow rule script.now h (OutcomeOf done)) }
 {
-    let _ = (alloc, script, task);
+    let _alloc = alloc;
+    let _script = script;
+    let _task = task;
     Err(NoMemory)
 }

@@ -19,5 +19,6 @@ pub fn claim_is_read(script: &Script, entries: &[Entry], _task: &Task)
     ensures { (rule : ServiceRule) (out : List TaskKey) → Legal rule script.now entries.now → HoldsFacts script.now entries.now _task.now
         → IsReady rule script.now entries.now out (key_of _task.now) → IsTaskOf rule script.now entries.now _task.now }
 {
-    let _ = (script, entries);
+    let _script = script;
+    let _entries = entries;
 }

@@ -27,7 +27,9 @@ impl<'a> TaskLoad<'a> {
         ensures task { IfOk result (λ load. load.task ≡ task) }
         ensures script { IfOk result (λ load. script_of load ≡ script.now) }
     {
-        let _ = (alloc, script, task);
+        let _alloc = alloc;
+        let _script = script;
+        let _task = task;
         Err(NoMemory)
     }
 
@@ -45,6 +47,7 @@ impl<'a> TaskLoad<'a> {
         self.task.process
     }
 
+    #[tactic(auto, using(crate::proofs::Stub::steps_from))]
     /// The next step of the load: `Step::Gone` exactly where the process that asked is dead.
     pub fn step(&mut self, alloc: Global, host_dead: bool) -> Result<Step, NoMemory>
         ensures gone { result ≡ Ok Step.Gone ↔ host_dead ≡ true }
@@ -54,7 +57,7 @@ impl<'a> TaskLoad<'a> {
         ensures task { self.new.task ≡ self.old.task }
         ensures script { script_of self.new ≡ script_of self.old }
     {
-        let _ = alloc;
+        let _alloc = alloc;
         if host_dead {
             return Ok(Step::Gone);
         }
