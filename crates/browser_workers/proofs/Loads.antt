@@ -1,10 +1,16 @@
 -- The steps of a load, as they are brought back.
-use Rattle.std.proofs.Common.{ap, refl, subst, sym, ◌∙◌}
+use Rattle.std.proofs.Common.{ap, arith, refl, subst, sym, ◌∙◌}
 use Rattle.std.proofs.Math.Seq.{take-length}
 use Rattle.std.specs.Prelude.{◌≡◌, ◌<◌, ◌++◌, ◌∷◌, [], List, Bool, Some, false, length, take, true, ℕ}
 use Rattle.history_entry.specs.declared.entry.Entry.{Entry}
 use Rattle.script_model.specs.ScriptData.{ScriptData}
 use Rattle.service_rule.specs.Services.{ServiceRule}
+use Rattle.history_rules.proofs.Apart.{from_then}
+use Rattle.history_rules.specs.Documents.{process_of}
+use Rattle.history_rules.specs.Requests.{request_document}
+use Rattle.history_laws.proofs.Bound.{started_few}
+use Rattle.history_laws.proofs.Honest.{process_hosts}
+use Rattle.history_steps.proofs.Locks.{hosted_started}
 use Rattle.history_steps.specs.Run.{Legal}
 use Rattle.policy_table.specs.Histories.{StartsWith}
 use Rattle.policy_table.specs.declared.standing.Standing.{Standing}
@@ -27,6 +33,13 @@ use Rattle.browser_workers.specs.Loads.{GoesOnBehind, is_held}
 pub stands_later : (rule : ServiceRule) → StandingStays rule → (seen after : List Entry) (load : TaskLoad) → StartsWith after seen → StandsWithin rule seen load → StandsWithin rule after load
 stands_later rule stays seen after load begins within =
     subst (λ (h : List Entry). StandsWithin rule h load) (sym begins.1) (stays seen begins.0 load within)
+
+-- its process has a row in the table
+pub process_small : (rule : ServiceRule) (h : List Entry) (load : TaskLoad) → StandsWithin rule h load → load.task.process < 1024
+process_small rule h load within =
+    let g = take within.place h in
+    let t = from_then (process_of g) (request_document g load.task.request) load.task.process within.at.holds.process in
+    omega (arith, hosted_started rule (script_of load) g within.at.legal load.task.process t.0 (process_hosts g load.task.process t.0 t.2), started_few rule (script_of load) g within.at.legal)
 
 module _ (rule : ServiceRule) (seen : List Entry) (old new : TaskLoad) (from_steps : StepsComeBack rule) (from_gone : GoneComesBack rule) (within : StandsWithin rule seen old) where
   -- a step that holds no piece may be brought back where the load stood

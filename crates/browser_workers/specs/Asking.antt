@@ -5,10 +5,14 @@ use Rattle.script_model.specs.ScriptData.{ScriptData}
 use Rattle.service_rule.specs.Services.{ServiceRule}
 use Rattle.history_steps.specs.Run.{Finished, Legal}
 use Rattle.policy_table.specs.Histories.{StartsWith}
+use Rattle.history_rules.specs.Actions.{act_in}
+use Rattle.work_queue.specs.declared.task.ActTask.{ActTask}
 use Rattle.work_queue.specs.declared.tasks.Claim.{Claim}
 use Rattle.work_queue.specs.declared.tasks.Claim.TheVariants.{None as NoTask, Task as OneTask}
 use Rattle.browser_tasks.specs.Outcomes.{IsOutcome}
+use Rattle.browser_tasks.specs.declared.outcome.ActDone.{ActDone}
 use Rattle.browser_tasks.specs.declared.outcome.Outcome.{Outcome}
+use Rattle.browser_tasks.specs.declared.outcome.Outcome.TheVariants as outcomes
 use Rattle.browser_core.specs.Applying.{Extends}
 use Rattle.browser_core.specs.declared.applying.Applied.{Applied}
 use Rattle.task_work.specs.Claimed.{IsTaskOf}
@@ -55,3 +59,11 @@ pub record IsBrought (rule : ServiceRule) (s : ScriptData) (outcome : Outcome) (
   pub found : List Entry
   pub begins : StartsWith found seen
   pub brings : BringsBack rule s outcome found after applied
+
+-- what the next action of a document came to was brought back
+pub record BringsAct (rule : ServiceRule) (s : ScriptData) (task : ActTask) (seen after : List Entry) (applied : Applied) : Type 0 where
+  pub done : ActDone
+  pub document : done.document ≡ task.sight.document
+  pub action : done.action ≡ task.action
+  pub act : done.act ≡ act_in s task.sight task.action
+  pub brought : IsBrought rule s (outcomes.Act done) seen after applied

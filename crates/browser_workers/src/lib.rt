@@ -23,5 +23,3 @@ pub use gate::{Gate, NoGate, Point};
 pub use policy_table::{NoMemory, Standing};
 pub use run::run_workers;
 
-#[cfg(test)]
-mod tests;

@@ -19,6 +19,9 @@ use policy_table::{NoMemory, Pass, Standing};
 use std::alloc::Global;
 use std::sync::Wait;
 use task_work::TaskLoad;
+use task_work::laws::{
+    dead_hosts_make_steps_gone, loads_stand_within_later_histories, steps_may_come_back,
+};
 use work_queue::LoadTask;
 
 fn is_dead(standing: Standing) -> bool
@@ -50,13 +53,34 @@ pub(crate) fn do_load<B: Bench, G: Gate, R: Wait>(
 {
     let mut load = TaskLoad::new(alloc, bench.script(), task)?;
     for _ in rt.forever() {
-        let standing = bench.standing(pass, load.process());
-        gate.at(worker, Point::Step(load.request(), standing));
-        if !take_step(rt, alloc, bench, pass, &mut load, standing)? {
+        if !go_on(rt, alloc, bench, gate, worker, pass, &mut load)? {
             return Ok(());
         }
     }
     unreachable!()
+}
+
+/// Asks how the process of a load stands, takes the step, and says whether the load goes on.
+fn go_on<B: Bench, G: Gate, R: Wait>(
+    rt: &R,
+    alloc: Global,
+    bench: &B,
+    gate: &G,
+    worker: u32,
+    pass: &mut Pass<Entry>,
+    load: &mut TaskLoad<'_>,
+) -> Result<bool, NoMemory>
+    requires desk { pass.old.desk ≡ B.desk bench.now }
+    requires script { script_of load.old ≡ B.pages }
+    requires stands { StandsWithin B.rule pass.old.seen load.old }
+    ensures on { HasGoneOn pass.old pass.new }
+    ensures script { script_of load.new ≡ B.pages }
+    ensures stands { IfOk result (λ more. more ≡ true → StandsWithin B.rule pass.new.seen load.new) }
+{
+    loads_stand_within_later_histories();
+    let standing = bench.standing(pass, load.process());
+    gate.at(worker, Point::Step(load.request(), standing));
+    take_step(rt, alloc, bench, pass, load, standing)
 }
 
 /// Takes a step of a load whose process stands so, brings it back unless it holds a piece, and says whether the load goes on.
@@ -73,10 +97,12 @@ fn take_step<B: Bench, R: Wait>(
     requires stands { StandsWithin B.rule pass.old.seen load.old }
     requires standing { standing ≡ table_standing pass.old.seen load.old.task.process }
     ensures on { HasGoneOn pass.old pass.new }
-    ensures task { load.new.task ≡ load.old.task }
     ensures script { script_of load.new ≡ B.pages }
     ensures stands { IfOk result (λ more. more ≡ true → StandsWithin B.rule pass.new.seen load.new) }
 {
+    loads_stand_within_later_histories();
+    steps_may_come_back();
+    dead_hosts_make_steps_gone();
     let step = load.step(alloc, is_dead(standing))?;
     if is_held(&step) {
         return Ok(true);

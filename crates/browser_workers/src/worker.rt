@@ -3,8 +3,9 @@
 ghost use Rattle.std.specs.Prelude.{◌≡◌, IfOk, true};
 ghost use Rattle.history_steps.specs.Run.{Finished};
 ghost use Rattle.work_queue.specs.declared.task.Task.TheVariants as tasks;
+ghost use Rattle.browser_tasks.specs.declared.outcome.Outcome.TheVariants as outcomes;
 ghost use Rattle.task_work.specs.Claimed.{IsTaskOf};
-ghost use Rattle.browser_workers.specs.Asking.{Claims, IsBrought, MayBring};
+ghost use Rattle.browser_workers.specs.Asking.{BringsAct, Claims, IsBrought, MayBring};
 ghost use Rattle.browser_workers.specs.Kinds.{kind_of};
 ghost use Rattle.browser_workers.specs.Passes.{HasGoneOn};
 ghost use Rattle.browser_workers.specs.declared.worker.Turn.TheVariants as turns;
@@ -19,6 +20,7 @@ use std::alloc::Global;
 use std::sync::Wait;
 use std::thread::yield_now;
 use task_work::act_done;
+use task_work::laws::{jobs_can_follow, outcomes_may_come_back_later};
 use work_queue::ActTask;
 
 /// What came of asking for a task.
@@ -148,8 +150,12 @@ fn do_task<B: Bench, G: Gate, R: Wait>(
     let key = task.key();
     gate.at(worker, Point::Claimed(key));
     match task {
-        Task::Browser(job) => do_job(rt, bench, pass, job)?,
-        Task::Act(act) => do_act(rt, alloc, bench, pass, &act)?,
+        Task::Browser(job) => {
+            do_job(rt, bench, pass, job)?;
+        }
+        Task::Act(act) => {
+            do_act(rt, alloc, bench, pass, &act)?;
+        }
         Task::Load(load) => do_load(rt, alloc, bench, gate, worker, pass, load)?,
     }
     gate.at(worker, Point::Returned(key));
@@ -162,13 +168,15 @@ fn do_job<B: Bench, R: Wait>(
     bench: &B,
     pass: &mut Pass<Entry>,
     job: BrowserJob,
-) -> Result<(), NoMemory>
+) -> Result<Applied, NoMemory>
     requires desk { pass.old.desk ≡ B.desk bench.now }
     requires task { IsTaskOf B.rule B.pages pass.old.seen (tasks.Browser job) }
     ensures on { HasGoneOn pass.old pass.new }
+    ensures brought { IfOk result (IsBrought B.rule B.pages (outcomes.Browser job) pass.old.seen pass.new.seen) }
 {
-    bring_back(rt, bench, pass, Outcome::Browser(job))?;
-    Ok(())
+    jobs_can_follow();
+    outcomes_may_come_back_later();
+    bring_back(rt, bench, pass, Outcome::Browser(job))
 }
 
 /// Finds what the next action of a document comes to, and brings it back.
@@ -178,12 +186,13 @@ fn do_act<B: Bench, R: Wait>(
     bench: &B,
     pass: &mut Pass<Entry>,
     act: &ActTask,
-) -> Result<(), NoMemory>
+) -> Result<Applied, NoMemory>
     requires desk { pass.old.desk ≡ B.desk bench.now }
     requires task { IsTaskOf B.rule B.pages pass.old.seen (tasks.Act act.now) }
     ensures on { HasGoneOn pass.old pass.new }
+    ensures brought { IfOk result (BringsAct B.rule B.pages act.now pass.old.seen pass.new.seen) }
 {
+    outcomes_may_come_back_later();
     let done = act_done(alloc, bench.script(), act)?;
-    bring_back(rt, bench, pass, Outcome::Act(done))?;
-    Ok(())
+    bring_back(rt, bench, pass, Outcome::Act(done))
 }
