@@ -2,5 +2,5 @@ pub mod Passes
 pub mod Booking
 pub mod Bringing
 pub mod Loads
-pub mod Seats
+pub mod Places
 pub mod Over

@@ -1,6 +1,6 @@
 //! The core, as the shared table sees it.
 
-ghost use Rattle.std.specs.Prelude.{◌≡◌, None};
+ghost use Rattle.std.specs.Prelude.{◌≡◌, None, ⊤};
 ghost use Rattle.process_standings.specs.Standings.{table_standing};
 ghost use Rattle.browser_workers.specs.Asking.{Does, MayAsk};
 ghost use Rattle.browser_workers.specs.Growing.{ask_grows};
@@ -27,9 +27,8 @@ pub struct CoreBook<'a, V: Service, J: Named> {
 }
 
 impl<'a, V: Service, J: Named> CoreBook<'a, V, J> {
-    ghost use Rattle.std.specs.Prelude.{◌⊎◌, IfOk, OnErr, ⊤};
+    ghost use Rattle.std.specs.Prelude.{IfOk, OnErr};
     ghost use Rattle.policy_table.specs.Changes.{Changes};
-    ghost use Rattle.policy_table.specs.Histories.{AddsOne};
     ghost use Rattle.history_steps.specs.Run.{Legal};
     ghost use Rattle.browser_workers.specs.Asking.{BringsBack, Claims, MayBring};
     ghost use Rattle.browser_workers.specs.Booking.{IsChangeOf};
