@@ -1,4 +1,0 @@
-pub mod Claimed
-pub mod Stands
-pub mod Steps
-pub mod Laws
