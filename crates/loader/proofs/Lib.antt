@@ -1,1 +1,3 @@
 pub mod Taking
+pub mod Whole
+pub mod WirePieces

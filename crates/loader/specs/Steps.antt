@@ -38,8 +38,8 @@ IsNext old new piece = (old.held.items ≡ piece ∷ new.held.items) ⊎ ((old.h
 
 -- What an answer says of the load before and after its step, which had handed out these pieces before.
 abbrev pub Says : Case → List (List ℕ) → Progress → Progress → Step → Type 0
--- a piece was taken, and all bytes taken settle nothing
-Says case out old new Held = HoldsOneMore old new × (verdict_so_far new case out ≡ None) × (new.cleared ≡ None)
+-- before the head a piece was taken, and all bytes taken settle nothing
+Says case out old new Held = HoldsOneMore old new × (verdict_so_far new case out ≡ None) × (old.cleared ≡ None) × (new.cleared ≡ None)
 -- the first time, with the leave that all later pieces have
 Says case out old new (Head cleared) = (old.cleared ≡ None) × (new.cleared ≡ Some cleared) × IsLeave new case out cleared
 -- after the head, the next piece

@@ -6,13 +6,16 @@
 //! never holds more than the pieces by which the verdict was settled, and the one that it hands out.
 #![tactic(auto)]
 
+pub mod laws;
 mod load;
 mod progress;
 mod read;
+mod wires;
 
 pub use browser_io::{Failed, ScriptWire, Wire};
 pub use load::Load;
 pub use read_verdict::{Cleared, Judge, Part, Step};
+pub use wires::{empty_wire, wire_of};
 
 #[cfg(test)]
 mod tests;

@@ -20,7 +20,7 @@ pub struct Load {
 }
 
 impl Load {
-    ghost use Rattle.std.specs.Prelude.{◌≡◌, ◌≢◌, ◌↔◌, ◌≤◌, ◌<◌, ◌+◌, ◌-◌, ◌^◌, [], true, false, ℕ, List, Ok, IfOk};
+    ghost use Rattle.std.specs.Prelude.{◌≡◌, ◌≢◌, ◌↔◌, ◌≤◌, ◌<◌, ◌+◌, ◌-◌, ◌^◌, [], true, false, ℕ, List, Ok, IfOk, IsTrue};
     ghost use Rattle.browser_io.specs.Faults.{Rose};
     ghost use Rattle.browser_io.specs.Wires.{IsUsedUp, KeepsTellingPieces};
     ghost use Rattle.read_verdict.specs.Cases.{Case};
@@ -38,6 +38,13 @@ impl Load {
             progress: Progress::new(alloc, judge),
             buffer,
         })
+    }
+
+    /// Whether one more piece can be taken and numbered.
+    pub fn has_room(&self) -> bool
+        ensures { IsTrue result ↔ (taken_count self.now.progress < 2 ^ 32 - 1) }
+    {
+        self.progress.has_room()
     }
 
     /// The next step of the load, from this wire. `Step::Gone` exactly where the process that asked is dead; then the
@@ -67,6 +74,7 @@ impl Load {
 
         // A fault is one of the wire in this step, with none of its pieces left, and nothing else is counted.
         ensures used_up { result ≡ Ok Step.Fault → IsUsedUp (W.left wire.old) (W.fails wire.old) true }
+        ensures unmoved { result ≡ Ok Step.Fault → W.left wire.new ≡ W.left wire.old }
         ensures rose { result ≡ Ok Step.Fault → Rose (W.faults wire.old) (W.faults wire.new) }
         ensures calm { result ≢ Ok Step.Fault → W.faults wire.new ≡ W.faults wire.old }
         ensures later { W.faults wire.old ≤ W.faults wire.new }

@@ -1,4 +1,4 @@
-ghost use Rattle.std.specs.Prelude.{◌≡◌, ◌≢◌, ◌↔◌, ◌≤◌, ◌<◌, ◌+◌, ◌-◌, ◌^◌, ◌++◌, ◌∷◌, [], true, false, ℕ, List, Ok, None, Some, IfOk, OnOk};
+ghost use Rattle.std.specs.Prelude.{◌≡◌, ◌≢◌, ◌↔◌, ◌≤◌, ◌<◌, ◌+◌, ◌-◌, ◌^◌, ◌++◌, ◌∷◌, [], true, false, ℕ, List, Ok, None, Some, IfOk, IsTrue, OnOk};
 ghost use Rattle.read_verdict.specs.Cases.{Case, verdict_on};
 ghost use Rattle.read_verdict.specs.HasJudged.{HasJudged};
 ghost use Rattle.loader.specs.Loads.{HasLoaded, IsFresh, bytes_of, taken_count};
@@ -39,6 +39,13 @@ impl Progress {
             cleared: None,
             ended: false,
         }
+    }
+
+    /// Whether one more piece can be taken and numbered.
+    pub(crate) fn has_room(&self) -> bool
+        ensures { IsTrue result ↔ (taken_count self.now < 2 ^ 32 - 1) }
+    {
+        u64::from(self.handed) + (self.held.len() as u64) < u64::from(u32::MAX)
     }
 
     /// Whether the next step needs a read of the wire.

@@ -1,0 +1,10 @@
+pub mod Prefixes
+pub mod Claiming
+pub mod Acting
+pub mod Bringing
+pub mod Requests
+pub mod Following
+pub mod Beginning
+pub mod Stepping
+pub mod Standing
+pub mod Gone
