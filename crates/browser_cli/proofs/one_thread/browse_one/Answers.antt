@@ -1,6 +1,6 @@
 use Rattle.std.proofs.Common.{◌∙◌, Err, ap}
 use Rattle.browser_cli.proofs.Inputs.{too_long_named}
-use Rattle.browser_cli.proofs.browse.browse_one.Goals as goal
+use Rattle.browser_cli.proofs.one_thread.browse_one.Goals as goal
 
 pub returns-in-Err-TooLarge-clause-complete : goal.returns-in-Err-TooLarge-clause-complete
 returns-in-Err-TooLarge-clause-complete g c command input named all calm still memory =
