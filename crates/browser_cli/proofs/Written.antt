@@ -6,9 +6,15 @@ use Rattle.history_entry.specs.declared.entry.Entry.{Entry}
 use Rattle.history_entry.specs.declared.policy.Policy.TheVariants.{Two}
 use Rattle.script_model.specs.ScriptData.{ScriptData}
 use Rattle.history_entries.specs.Text.{text_of}
+use Rattle.history_laws.specs.CommitLaw.{CommitLaw}
+use Rattle.history_laws.specs.JudgementLaw.{HonestLaw, JudgementLaw}
+use Rattle.history_laws.specs.KillLaw.{KillLaw}
+use Rattle.history_laws.specs.Laws.{LawsHold}
+use Rattle.history_laws.specs.ReceiveLaw.{ReceiveLaw}
 use Rattle.history_steps.specs.Objects.{HasOneSpelling}
 use Rattle.history_steps.specs.Run.{Finished, Legal}
 use Rattle.history_steps.specs.ScriptLimits.{IsWithinLimits}
+use Rattle.service_rule.specs.Services.{ServiceRule}
 use Rattle.service_rule.specs.Store.{store_rule}
 use Rattle.browser_cli.specs.Answers.{IsAnswer, IsWorkersText}
 use Rattle.browser_cli.specs.Browse.{input_of}

