@@ -40,7 +40,6 @@ fn worked_history<R: Threads + Wait + Sync, G: Gate + Sync>(
 }
 
 /// The text of a finished legal history, which is that of no other.
-#[tactic(auto, using(crate::proofs::Written::one_text))]
 fn finished_text(alloc: Global, script: &Script, history: &History) -> Result<Vec<u8>, NoMemory>
     requires legal { Legal store_rule script.now history.now }
     requires finished { Finished store_rule script.now history.now }
