@@ -37,14 +37,7 @@ fn run<R: Alloc<A = Global> + Env + Input + Print + Threads + Wait + Sync>(
     }
     let mut source = InputSource::new(rt.reader());
     let mut sink = OutputSink::new(io::writer(rt));
-    Ok(browse(
-        rt,
-        alloc,
-        words.as_slice(),
-        &mut source,
-        &mut sink,
-        &NoGate,
-    ))
+    Ok(browse(rt, alloc, words.as_slice(), &mut source, &mut sink, &NoGate))
 }
 
 fn print_line(rt: &impl Eprint, line: &str) {

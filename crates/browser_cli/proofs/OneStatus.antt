@@ -1,5 +1,5 @@
 -- A command ends in one way over an input, where no read and no write fails and memory is found.
-use Rattle.std.proofs.Common.{◌≡◌, ◌∙◌, ◌+◌, ◌++◌, ◌∷◌, ◌⊎◌, [], List, Some, Err, Ok, ap, drop, inl, inr, length, refl, subst, sym, take, ℕ, ⊎_elim}
+use Rattle.std.proofs.Common.{◌≡◌, ◌∙◌, ◌++◌, ◌⊎◌, List, Some, Err, Ok, ap, drop, inl, inr, length, refl, subst, sym, take, ℕ, ⊎_elim}
 use Rattle.std.proofs.Math.Seq.{drop-append_seam, take-append_seam}
 use Rattle.std.proofs.lemmas.Bool.{cases_lt}
 use Rattle.decimal_text.specs.Numbers.{decimal_number}

@@ -1,6 +1,6 @@
 -- The headline: what `run N` writes is the text of one finished legal history of its script. A history may be in whatever order its
 -- workers took their turns. What such a history keeps is said by the clauses of `browse`, in the words of `history_laws`.
-use Rattle.std.specs.Prelude.{◌≡◌, ◌++◌, ⊤, IfSome, List, None, Ok, Option, Some, ℕ}
+use Rattle.std.specs.Prelude.{◌≡◌, ◌++◌, ⊤, IfSome, List, Ok, Option, Some, ℕ}
 use Rattle.history_entry.specs.declared.entry.Entry.{Entry}
 use Rattle.history_entry.specs.declared.policy.Policy.TheVariants.{Two}
 use Rattle.script_model.specs.ScriptData.{ScriptData}
