@@ -42,6 +42,7 @@ fn comes(word: &AtomicU64, wanted: u64) -> bool {
 }
 
 /// Holds the worker that claims the load of request 0 until another one has brought back the whole of another load.
+#[derive(Drop)]
 struct HeldLoad {
     // Of each of four workers the first load that it brought back, and one more than its request.
     first: AtomicU64,
@@ -155,6 +156,7 @@ fn a_load_is_done_beside_another(rt: HostRuntime) -> Result<(), Fail> {
 }
 
 /// Lets the process of a request die between two steps of its load.
+#[derive(Drop)]
 struct DyingHost {
     acts_claimed: AtomicU64,
     acts_returned: AtomicU64,
