@@ -1,16 +1,18 @@
 //! The browser's program: its words name the command, standard input gives the input and standard output takes the
-//! output. A status other than Ran has a line on standard error.
+//! output. A status other than Ran has a line on standard error. Nobody is told what the workers of `run` do.
 #![tactic(auto)]
 
 ghost use Rattle.std.specs.Prelude.{◌≡◌, ◌↔◌};
 ghost use Rattle.std.specs.IoError.{error_kind};
 
-use browser_cli::{Status, browse_one, status_line};
+use browser_cli::{NoGate, Status, browse, status_line};
 use browser_io::{InputSource, OutputSink};
 use std::alloc::Global;
 use std::io::ErrorKind;
 use std::process::ExitCode;
 use std::rt::Env;
+use std::sync::Wait;
+use std::thread::Threads;
 use std::{env, io};
 
 /// The status where the words can't be had: memory ran out, or one of them isn't UTF-8.
@@ -24,7 +26,9 @@ fn status_without_words(error: io::Error) -> Status
     }
 }
 
-fn browse(rt: &(impl Alloc<A = Global> + Env + Input + Print)) -> io::Result<Status> {
+fn run<R: Alloc<A = Global> + Env + Input + Print + Threads + Wait + Sync>(
+    rt: &R,
+) -> io::Result<Status> {
     let alloc = rt.alloc();
     let arguments: Vec<String> = env::args(rt)?.collect(alloc)?;
     let mut words = Vec::new(alloc);
@@ -33,7 +37,7 @@ fn browse(rt: &(impl Alloc<A = Global> + Env + Input + Print)) -> io::Result<Sta
     }
     let mut source = InputSource::new(rt.reader());
     let mut sink = OutputSink::new(io::writer(rt));
-    Ok(browse_one(alloc, words.as_slice(), &mut source, &mut sink))
+    Ok(browse(rt, alloc, words.as_slice(), &mut source, &mut sink, &NoGate))
 }
 
 fn print_line(rt: &impl Eprint, line: &str) {
@@ -54,7 +58,7 @@ fn tell(rt: &(impl Alloc<A = Global> + Eprint), status: &Status) {
 }
 
 fn main(rt: HostRuntime) -> ExitCode {
-    let status = browse(&rt).unwrap_or_else(status_without_words);
+    let status = run(&rt).unwrap_or_else(status_without_words);
     tell(&rt, &status);
     ExitCode::from(status.exit_code())
 }

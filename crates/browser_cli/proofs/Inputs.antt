@@ -7,7 +7,7 @@ use Rattle.browser_io.specs.declared.reading.ReadStop.TheVariants as stops
 use Rattle.browser_cli.specs.Browse.{IsStatusFor, ReadsNothing, input_of}
 use Rattle.browser_cli.specs.Commands.{input_limit}
 use Rattle.browser_cli.specs.declared.command.Command.{Command}
-use Rattle.browser_cli.specs.declared.command.Command.TheVariants.{Audit, Gen, One}
+use Rattle.browser_cli.specs.declared.command.Command.TheVariants.{Audit, Gen, One, Run}
 use Rattle.browser_cli.specs.declared.status.Status.TheVariants.{TooLarge}
 
 longer : (limit : ℕ) (input : List ℕ) (now : Option (List ℕ)) → TakesExactly (Some input) now (limit + 1) → limit < length input
@@ -31,6 +31,8 @@ too_long One input left now read is silent takes all =
     too_large One input (longer (input_limit One) input now (subst (λ l. TakesExactly l now (input_limit One + 1)) all takes))
 too_long Audit input left now read is silent takes all =
     too_large Audit input (longer (input_limit Audit) input now (subst (λ l. TakesExactly l now (input_limit Audit + 1)) all takes))
+too_long (Run count) input left now read is silent takes all =
+    too_large (Run count) input (longer (input_limit (Run count)) input now (subst (λ l. TakesExactly l now (input_limit (Run count) + 1)) all takes))
 too_long (Gen number) input left now read is silent takes all = absurd (not_ok read is (silent tt))
 
 -- the same, of the command that the words name

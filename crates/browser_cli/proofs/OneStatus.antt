@@ -1,5 +1,5 @@
 -- A command ends in one way over an input, where no read and no write fails and memory is found.
-use Rattle.std.proofs.Common.{◌≡◌, ◌∙◌, ◌+◌, ◌++◌, ◌∷◌, ◌⊎◌, [], List, Some, Err, Ok, ap, drop, inl, inr, length, refl, subst, sym, take, ℕ, ⊎_elim}
+use Rattle.std.proofs.Common.{◌≡◌, ◌∙◌, ◌++◌, ◌⊎◌, List, Some, Err, Ok, ap, drop, inl, inr, length, refl, subst, sym, take, ℕ, ⊎_elim}
 use Rattle.std.proofs.Math.Seq.{drop-append_seam, take-append_seam}
 use Rattle.std.proofs.lemmas.Bool.{cases_lt}
 use Rattle.decimal_text.specs.Numbers.{decimal_number}
@@ -13,7 +13,7 @@ use Rattle.browser_cli.specs.Answers.{IsAnswer, IsAuditOf, IsRefusal, status_of_
 use Rattle.browser_cli.specs.Browse.{IsEnding, StatusesAreUnique}
 use Rattle.browser_cli.specs.Commands.{IsCut, IsFramed, input_limit}
 use Rattle.browser_cli.specs.declared.command.Command.{Command}
-use Rattle.browser_cli.specs.declared.command.Command.TheVariants.{Audit, Gen, One}
+use Rattle.browser_cli.specs.declared.command.Command.TheVariants.{Audit, Gen, One, Run}
 use Rattle.browser_cli.specs.declared.status.Status.{Status}
 use Rattle.browser_cli.specs.declared.status.Status.TheVariants.{Illegal, NoMemory, Ran, ReadFault, Refused, TooLarge, Usage, WriteFault}
 use Rattle.browser_cli.proofs.Frames.{number_digits, same_cut}
@@ -55,6 +55,7 @@ same_answers : ((rule : ServiceRule) (s : ScriptData) → HasOneAudit rule s) �
     → IsAnswer command input s o → IsAnswer command input t p → s ≡ t
 same_answers unique One input s t o p one other = one.0 ∙ sym other.0
 same_answers unique (Gen number) input s t o p one other = one.0 ∙ sym other.0
+same_answers unique (Run count) input s t o p one other = one.0 ∙ sym other.0
 same_answers unique Audit input s t o p one other =
     let parts = one_frame input one.script_text one.text other.script_text other.text one.is_framed other.is_framed in
     same_audit unique other.script_text other.text s t o p
@@ -72,6 +73,9 @@ same_refusals Audit input x y (inr one) (inr other) =
     let both : Err x ≡ Err y = sym one.is_refused ∙ ap script_of parts.0 ∙ other.is_refused in
     cc
 same_refusals (Gen number) input x y one other = absurd one
+same_refusals (Run count) input x y one other =
+    let both : Err x ≡ Err y = sym one ∙ other in
+    cc
 
 not_both : (command : Command) (input : List ℕ) (s : Status) (o : List ℕ) (x : Refusal) → IsAnswer command input s o → IsRefusal command input x → ⊥
 not_both One input s o x answer refusal =
@@ -83,6 +87,9 @@ not_both Audit input s o x answer (inr refusal) =
     let both : Ok answer.is_audit.script ≡ Err x = sym answer.is_audit.is_script ∙ ap script_of parts.0 ∙ refusal.is_refused in
     absurd cc
 not_both (Gen number) input s o x answer refusal = refusal
+not_both (Run count) input s o x answer refusal =
+    let both : Ok answer.1.script ≡ Err x = sym answer.1.is_script ∙ refusal in
+    absurd cc
 
 -- ---- endings
 

@@ -15,8 +15,9 @@ use Rattle.script_input.specs.ScriptReading.{script_of}
 use Rattle.script_input.specs.declared.refusal.Refusal.{Refusal}
 use Rattle.service_rule.specs.Store.{store_rule}
 use Rattle.browser_cli.specs.Commands.{HasNoFrame, IsFramed, bad_framing}
+use Rattle.browser_cli.specs.Headline.{IsTextOfHistory}
 use Rattle.browser_cli.specs.declared.command.Command.{Command}
-use Rattle.browser_cli.specs.declared.command.Command.TheVariants.{Audit, Gen, One}
+use Rattle.browser_cli.specs.declared.command.Command.TheVariants.{Audit, Gen, One, Run}
 use Rattle.browser_cli.specs.declared.status.Finding.{Finding}
 use Rattle.browser_cli.specs.declared.status.Finding.TheVariants as findings
 use Rattle.browser_cli.specs.declared.status.Status.{Status}
@@ -64,11 +65,19 @@ pub record IsSummary (number : ℕ) (output : List ℕ) : Type 0 where
   pub is_run : IsRun store_rule (generated number) history
   pub is_text : output ≡ summary_text history
 
+-- `run`: the input is a script, and the output is the text of one of its finished legal histories
+pub record IsWorkersText (input output : List ℕ) : Type 0 where
+  pub script : ScriptData
+  pub is_script : script_of input ≡ Ok script
+  pub history : List Entry
+  pub is_text : IsTextOfHistory script output history
+
 -- a command's status and output for an input that it doesn't refuse
 abbrev pub IsAnswer : Command → List ℕ → Status → List ℕ → Type 0
 IsAnswer One input status output = (status ≡ Ran) × IsRunText input output
 IsAnswer Audit input status output = IsAuditAnswer input status output
 IsAnswer (Gen number) input status output = (status ≡ Ran) × IsSummary number output
+IsAnswer (Run count) input status output = (status ≡ Ran) × IsWorkersText input output
 
 -- the input has a frame, and what stands in it is refused as a script
 pub record IsFramedRefusal (input : List ℕ) (refusal : Refusal) : Type 0 where
@@ -86,3 +95,4 @@ abbrev pub IsRefusal : Command → List ℕ → Refusal → Type 0
 IsRefusal One input refusal = script_of input ≡ Err refusal
 IsRefusal Audit input refusal = IsFrameRefusal input refusal ⊎ IsFramedRefusal input refusal
 IsRefusal (Gen number) input refusal = ⊥
+IsRefusal (Run count) input refusal = script_of input ≡ Err refusal

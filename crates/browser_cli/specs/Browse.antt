@@ -2,9 +2,9 @@
 use Rattle.std.specs.Prelude.{◌≡◌, ◌<◌, ◌≤◌, [], IfSome, List, None, Option, Some, ⊤, length, take, ℕ}
 use Rattle.std.specs.Io.KnownBytes.{Appends, IsAtEnd}
 use Rattle.browser_cli.specs.Answers.{IsAnswer, IsRefusal}
-use Rattle.browser_cli.specs.Commands.{command_of, input_limit}
+use Rattle.browser_cli.specs.Commands.{input_limit}
 use Rattle.browser_cli.specs.declared.command.Command.{Command}
-use Rattle.browser_cli.specs.declared.command.Command.TheVariants.{Audit, Gen, One}
+use Rattle.browser_cli.specs.declared.command.Command.TheVariants.{Audit, Gen, One, Run}
 use Rattle.browser_cli.specs.declared.status.Status.{Status}
 use Rattle.browser_cli.specs.declared.status.Status.TheVariants.{Illegal, Ran, Refused, TooLarge}
 
@@ -13,27 +13,26 @@ abbrev pub input_of : Command → Option (List ℕ) → Option (List ℕ)
 input_of One left = left
 input_of Audit left = left
 input_of (Gen number) left = Some []
+input_of (Run count) left = left
 
--- P holds of the command that the words name and of its input, where the source tells its bytes
-abbrev pub IfInput : List (List ℕ) → Option (List ℕ) → (Command → List ℕ → Type 0) → Type 0
-IfInput words left P = IfSome (command_of words) (λ command. IfSome (input_of command left) (P command))
-
--- P holds of the command that the words name
-abbrev pub IfCommand : List (List ℕ) → (Command → Type 0) → Type 0
-IfCommand words P = IfSome (command_of words) P
+-- P holds of the command that is named and of its input, where the source tells its bytes
+abbrev pub IfInput : Option Command → Option (List ℕ) → (Command → List ℕ → Type 0) → Type 0
+IfInput named left P = IfSome named (λ command. IfSome (input_of command left) (P command))
 
 -- the command's source was read to its end; `gen` has no source
 abbrev pub IsReadWhole : Option (List ℕ) → Command → Type 0
 IsReadWhole left One = IsAtEnd left
 IsReadWhole left Audit = IsAtEnd left
 IsReadWhole left (Gen number) = ⊤
+IsReadWhole left (Run count) = IsAtEnd left
 
--- nothing is read: the words are no command, or `gen`
+-- nothing is read: no command is named, or `gen`
 abbrev pub ReadsNothing : Option Command → Type 0
 ReadsNothing None = ⊤
 ReadsNothing (Some One) = ⊥
 ReadsNothing (Some Audit) = ⊥
 ReadsNothing (Some (Gen number)) = ⊤
+ReadsNothing (Some (Run count)) = ⊥
 
 -- exactly the whole output was written that the command makes of its input with this status
 abbrev pub WritesOutput : Status → Option (List ℕ) → Option (List ℕ) → Command → List ℕ → Type 0

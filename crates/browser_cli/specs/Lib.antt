@@ -1,4 +1,5 @@
 pub mod StatusLines
 pub mod Commands
+pub mod Headline
 pub mod Answers
 pub mod Browse

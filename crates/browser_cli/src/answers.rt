@@ -4,6 +4,7 @@ ghost use Rattle.std.specs.Prelude.{◌≡◌, Err, IfOk};
 ghost use Rattle.script_input.specs.ScriptReading.{script_of};
 ghost use Rattle.script_input.specs.declared.refusal.Refusal.{Refusal as RefusalData};
 ghost use Rattle.browser_cli.specs.Answers as answers;
+ghost use Rattle.browser_cli.specs.Commands.{IsOfOneThread};
 ghost use Rattle.browser_cli.specs.declared.command.Command.TheVariants as commands;
 
 use crate::command::Command;
@@ -93,8 +94,9 @@ fn summarize(alloc: Global, number: u64) -> Result<Answer, NoMemory>
     })
 }
 
-/// What a command makes of its input, or how it refuses it.
+/// What a command of one thread makes of its input, or how it refuses it.
 pub fn answer_of(alloc: Global, command: Command, input: &[u8]) -> Result<Answer, ScriptStop>
+    requires { IsOfOneThread command }
     ensures ok { IfOk result (λ answer. answers.IsAnswer command input.now (answers.status_of_finding answer.finding) answer.output.items) }
     ensures refused { (refused : RefusalData) → result ≡ Err (ScriptStop.Refused refused) → answers.IsRefusal command input.now refused }
 {
@@ -102,5 +104,6 @@ pub fn answer_of(alloc: Global, command: Command, input: &[u8]) -> Result<Answer
         Command::One => run_script(alloc, input),
         Command::Audit => audit_input(alloc, input),
         Command::Gen(number) => Ok(summarize(alloc, number)?),
+        Command::Run(_) => unreachable!(),
     }
 }

@@ -1,6 +1,8 @@
 ghost use Rattle.std.specs.Prelude.{◌≤◌};
 
 mod cut_and_failing;
+mod gates;
+mod workers;
 
 use crate::{
     Command, Finding, PathText, Refusal, Status, browse_one, command_of, read_script, status_line,
@@ -77,7 +79,7 @@ fn run(
 #[test]
 fn commands_end_with_their_status(rt: HostRuntime) -> Result<(), Fail> {
     let usage = "usage: one | run N | audit | gen NUMBER";
-    let cases: [(&[&str], &str, u8, &str, &str); 14] = [
+    let cases: [(&[&str], &str, u8, &str, &str); 15] = [
         (&["one"], PAGE, 0, "", PAGE_TEXT),
         (&["one"], r#"{"start":[]}"#, 0, "", "history 2\n"),
         (
@@ -99,6 +101,7 @@ fn commands_end_with_their_status(rt: HostRuntime) -> Result<(), Fail> {
         (&[], PAGE, 2, usage, ""),
         (&["run", "0"], PAGE, 2, usage, ""),
         (&["run", "17"], PAGE, 2, usage, ""),
+        (&["run", "1"], PAGE, 2, usage, ""),
         (&["one", "two"], PAGE, 2, usage, ""),
         (&["One"], PAGE, 2, usage, ""),
         (&["audit", "one"], PAGE, 2, usage, ""),
@@ -118,7 +121,7 @@ fn commands_end_with_their_status(rt: HostRuntime) -> Result<(), Fail> {
 
 #[test]
 fn words_name_commands(rt: HostRuntime) {
-    let rows: [(&[&str], Option<Command>); 17] = [
+    let rows: [(&[&str], Option<Command>); 30] = [
         (&["one"], Some(Command::One)),
         (&["audit"], Some(Command::Audit)),
         (&["gen", "0"], Some(Command::Gen(0))),
@@ -134,6 +137,19 @@ fn words_name_commands(rt: HostRuntime) {
         (&["gen", " 7"], None),
         (&["gen", "7", "7"], None),
         (&["gen"], None),
+        (&["run", "1"], Some(Command::Run(1))),
+        (&["run", "2"], Some(Command::Run(2))),
+        (&["run", "16"], Some(Command::Run(16))),
+        (&["run", "0"], None),
+        (&["run", "17"], None),
+        (&["run", "01"], None),
+        (&["run", "+1"], None),
+        (&["run", "-1"], None),
+        (&["run", ""], None),
+        (&["run", "4294967297"], None),
+        (&["run", "1", "1"], None),
+        (&["run"], None),
+        (&["Run", "1"], None),
         (&["Audit"], None),
         (&["audit", ""], None),
         (&["one", "7"], None),

@@ -1,0 +1,19 @@
+#!/usr/bin/env bash
+# Workers of the built program. `run` with 1, 2, 4 and 16 workers on each example and each golden run of `one`: the status is 0, nothing
+# stands on standard error, and the program's own `audit` passes the text. Then rows whose heads, pieces and ends do not depend on who
+# comes first: responses that read blocking judges, under `run 4`, and a shop page under `run 16`. With `--stress`, and perhaps a number,
+# 1,000 or so many runs of `run 16` over scripts that are made by number, each audited, in place of all that: outside the gate.
+# Where python3 is missing, nothing is checked, and the status is 77. The last line is 'N passed, M failed'.
+set -u
+top=$(cd "$(dirname "${BASH_SOURCE[0]}")/.." && pwd)
+. "$top/.ci/program.sh"
+if ! command -v python3 >/dev/null 2>&1; then
+  echo "workers are NOT CHECKED: python3 is missing"
+  exit 77
+fi
+if ! program_is_ready; then
+  echo "workers: the program is not built"
+  echo "0 passed, 1 failed"
+  exit 1
+fi
+exec python3 "$top/tests/workers/check.py" "$top" "$program" "$@"
