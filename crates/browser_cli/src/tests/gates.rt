@@ -44,15 +44,15 @@ fn comes(word: &AtomicU64, wanted: u64) -> bool {
 /// Holds the worker that claims the load of request 0 until another one has brought back the whole of another load.
 #[derive(Drop)]
 struct HeldLoad {
-    // Of each of four workers the first load that it brought back, and one more than its request.
+    // The first load that came back, and the first one of another worker than that.
     first: AtomicU64,
     second: AtomicU64,
     held: AtomicBool,
-    // The request of the load that came first, and one more.
+    // The load that came back first of another worker than the one that is held.
     before: AtomicU64,
 }
 
-// A worker and a request.
+// One more than a worker's number in the upper half, and a request in the lower one; 0 stands for none.
 fn mark(worker: u32, request: u32) -> u64 {
     (worker as u64 + 1) << 32 | request as u64
 }
