@@ -8,6 +8,10 @@ import scripts
 top, program = pathlib.Path(sys.argv[1]), sys.argv[2]
 PAGE = '{"start":["https://a.com/"],"resources":[{"url":"https://a.com/","actions":[%s]},%s]}'
 FETCH = '{"do":"fetch","url":"https://b.com/x","mode":"no-cors"}'
+# The page reads a response of its own, waits for it, and gets what came before the wire failed.
+OWN_READ = '{"do":"fetch","url":"https://a.com/d","mode":"cors"},{"do":"wait"}'
+OWN_ANSWER = '{"url":"https://a.com/d","body":"0123456789","fail_after":3}'
+OWN_LINES = ["head 0 A1", "piece 0 0 303132", "end 0 failed N7"]
 
 
 def run(script, workers, timeout=120):
@@ -54,6 +58,9 @@ ANSWERS = [
     ("plain text that may not be sniffed", '"headers":[["Content-Type","text/plain"],["X-Content-Type-Options","NoSniff"]],"body":"x"', ["end 0 blocked B3"]),
     ("an image in XML", '"headers":[["Content-Type","image/svg+xml"]],"body":"<?xml"', ["head 0 A4", "piece 0 0 3c3f786d6c", "end 0 whole"]),
     ("JSON that is none", '"headers":[["Content-Type","application/json"]],"body":"hello","cuts":[1,3]', ["head 0 A5", "piece 0 0 68", "piece 0 1 656c", "piece 0 2 6c6f", "end 0 whole"]),
+    ("text in HTML that begins too late to be a page", '"headers":[["Content-Type","text/html"]],"body":"%s<html"' % (1020 * " "), ["head 0 A5", "piece 0 0 %s" % (1020 * "20" + "3c68746d6c"), "end 0 whole"]),
+    ("a page that begins just in time", '"headers":[["Content-Type","text/html"]],"body":"%s<html"' % (1019 * " "), ["end 0 blocked B4"]),
+    ("a style sheet behind a guard", '"headers":[["Content-Type","text/css"]],"body":")]}\'"', ["head 0 A4", "piece 0 0 295d7d27", "end 0 whole"]),
     ("a script behind a guard", '"headers":[["Content-Type","text/javascript"]],"body":")]}\'"', ["end 0 blocked B7"]),
     ("a page whose wire fails", '"headers":[["Content-Type","text/html"]],"body":"<html>","fail_after":3', ["end 0 failed N7"]),
     ("a text whose wire fails late", '"headers":[["Content-Type","text/html"]],"body":"hello","fail_after":3', ["head 0 A5", "piece 0 0 68656c", "end 0 failed N7"]),
@@ -71,8 +78,12 @@ def deliveries(text):
 
 
 def wrong_answer(name, answer, wanted):
-    script = (PAGE % (FETCH, '{"url":"https://b.com/x",%s}' % answer)).encode()
-    wrong, text = wrong_run(name, script, 4)
+    return wrong_page(name, PAGE % (FETCH, '{"url":"https://b.com/x",%s}' % answer), wanted)
+
+
+def wrong_page(name, script, wanted):
+    """What is wrong with a script under four workers, whose first request gets these lines."""
+    wrong, text = wrong_run(name, script.encode(), 4)
     if wrong is None and dict(deliveries(text)) != {"0": wanted}:
         wrong = f"{name}: run 4: {dict(deliveries(text))} in place of {wanted}"
     return wrong
@@ -99,20 +110,26 @@ def checks():
             yield lambda name=name, script=script, workers=workers: wrong_run(name, script, workers)[0]
     for row in ANSWERS:
         yield lambda row=row: wrong_answer(*row)
+    yield lambda: wrong_page("a read whose wire fails", PAGE % (OWN_READ, OWN_ANSWER), OWN_LINES)
     yield wrong_shop
 
 
 def stress(count):
-    """Each run of a made script."""
-    for number in range(count):
-        script = json.dumps(scripts.script(number)).encode()
-        yield lambda number=number, script=script: wrong_run(f"script {number}", script, 16)[0]
+    """Runs so many made scripts by the stress program, and ends with what it tells."""
+    lines = "".join(json.dumps(scripts.script(number)) + "\n" for number in range(count))
+    ended = subprocess.run([program, "1"], input=lines.encode(), capture_output=True)
+    *wrong, last = ended.stdout.decode().splitlines() or [""]
+    for line in wrong:
+        print(f"workers: {line}")
+    legal = re.fullmatch(rf"{count} runs, (\d+) legal", last)
+    passed = int(legal[1]) if legal and ended.returncode == 0 else 0
+    print(f"{passed} passed, {count - passed} failed")
+    sys.exit(0 if passed == count else 1)
 
 
 if sys.argv[3:4] == ["--stress"]:
-    todo = list(stress(int(sys.argv[4]) if len(sys.argv) > 4 else 1000))
-else:
-    todo = list(checks())
+    stress(int(sys.argv[4]) if len(sys.argv) > 4 else 1000)
+todo = list(checks())
 with concurrent.futures.ThreadPoolExecutor(os.cpu_count()) as pool:
     failures = [wrong for wrong in pool.map(lambda check: check(), todo) if wrong]
 for failure in failures:
