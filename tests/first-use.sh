@@ -48,7 +48,7 @@ make_repository() {
   mkdir -p "$repository/.ci" "$repository/tests/golden" "$repository/tests/against-chromium"
   cp "$top/mortxalde" "$repository/"
   cp "$top/.ci/run" "$top/.ci/program.sh" "$repository/.ci/"
-  for part in golden/run audits.sh first-use.sh script-schema.sh rules-pages.sh history-view.sh against-chromium/run; do
+  for part in golden/run audits.sh workers.sh first-use.sh script-schema.sh rules-pages.sh history-view.sh against-chromium/run; do
     printf '#!/bin/sh\nexit 0\n' >"$repository/tests/$part"
     chmod +x "$repository/tests/$part"
   done
