@@ -4,6 +4,7 @@ use Rattle.std.proofs.Common.{ap, arith, inl, inr, refl, subst, sym, ◌∙◌}
 use Rattle.std.proofs.Math.Seq.{take-length}
 use Rattle.std.proofs.lemmas.Option.{slice_get_within}
 use Rattle.std.specs.Prelude.{◌≡◌, ◌≤◌, ◌++◌, [], List, None, Option, Some, false, is_some, length, take, true, ℕ}
+use Rattle.browser_io.specs.Scripted.{ScriptedWire}
 use Rattle.history_entry.specs.declared.entry.Entry.{Entry}
 use Rattle.history_entry.specs.declared.entry.Entry.TheVariants.{Head}
 use Rattle.history_rules.proofs.Apart.{from_is_some, true_or_false}
@@ -17,6 +18,7 @@ use Rattle.history_steps.specs.Run.{Legal}
 use Rattle.loader.specs.Loads.{HasLoaded, IsFresh}
 use Rattle.read_verdict.specs.ClearedData.{ClearedData}
 use Rattle.script_model.specs.Pieces.{pieces}
+use Rattle.script_model.specs.ResourceData.{ResourceData}
 use Rattle.script_model.specs.ScriptData.{ScriptData}
 use Rattle.service_rule.specs.Services.{ServiceRule}
 use Rattle.work_queue.specs.declared.task.Task.TheVariants.{Load}
@@ -33,6 +35,16 @@ pub record IsFreshLoad (load : TaskLoad) : Type 0 where
   pub loaded : HasLoaded load.load.progress (case_of (script_of load) load.task) []
   pub left : load.wire.left ≡ pieces (response_of load)
   pub fails : load.wire.fails ≡ is_some (response_of load).fail_after
+
+-- it was made so, over the wire of this resource, which is the response
+pub fresh_load : (load : TaskLoad) (resource : ResourceData) → IsFresh load.load.progress → HasLoaded load.load.progress (case_of (script_of load) load.task) []
+    → load.wire ≡ record { left = pieces resource; fails = is_some resource.fail_after; faults = 0 } → resource ≡ response_of load → IsFreshLoad load
+fresh_load load resource fresh loaded wire found = record {
+  fresh = fresh;
+  loaded = loaded;
+  left = ap (λ (w : ScriptedWire). w.left) wire ∙ ap (λ (r : ResourceData). pieces r) found;
+  fails = ap (λ (w : ScriptedWire). w.fails) wire ∙ ap (λ (r : ResourceData). is_some r.fail_after) found;
+}
 
 none_headed : (o : Option ClearedData) → o ≡ None → is_some o ≡ false
 none_headed None is = refl
@@ -84,13 +96,17 @@ module _ (rule : ServiceRule) (load : TaskLoad) (fresh : IsFreshLoad load) where
               (by_load_to s (take at.place h) r (record { arrives = row.arrives; stays = row.stays })) row.headless;
         }
 
+    -- where it is not
+    pub begins_there : has_head h r ≡ false → StandsAt rule h load
+    begins_there none =
+        begins_at h claim.legal (delivery_live rule s h claim.legal r claim.entry claim.is_of.0 claim.follows) claim.holds claim.read claim.is_of.1 none
+
     pub begins : StandsWithin rule h load
     begins = elim (true_or_false (has_head h r)) [
       | inl some ↦ begins_before some
       | inr none ↦ record {
         place = length h;
         within = omega arith;
-        at = subst (λ g. StandsAt rule g load) (sym (take-length h))
-            (begins_at h claim.legal (delivery_live rule s h claim.legal r claim.entry claim.is_of.0 claim.follows) claim.holds claim.read claim.is_of.1 none);
+        at = subst (λ g. StandsAt rule g load) (sym (take-length h)) (begins_there none);
       }
     ]

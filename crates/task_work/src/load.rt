@@ -93,18 +93,21 @@ fn wire_at<'a>(resource: Option<&'a Resource>) -> ScriptWire<'a>
 }
 
 impl<'a> TaskLoad<'a> {
-    ghost use Rattle.std.specs.Prelude.{◌≡◌, ◌↔◌, IfOk, List, Ok, true};
+    ghost use Rattle.std.specs.Prelude.{◌≡◌, ◌↔◌, IfOk, List, Ok, false, true};
     ghost use Rattle.history_entry.specs.declared.entry.Entry.{Entry};
+    ghost use Rattle.history_rules.specs.Requests.{has_head};
     ghost use Rattle.service_rule.specs.Services.{ServiceRule};
     ghost use Rattle.work_queue.specs.declared.task.Task.TheVariants.{Load as LoadTaskOf};
     ghost use Rattle.task_work.specs.Claimed.{IsClaimed, IsTaskOf};
-    ghost use Rattle.task_work.specs.Stands.{StandsWithin, script_of};
+    ghost use Rattle.task_work.specs.Stands.{StandsAt, StandsWithin, script_of};
     ghost use Rattle.task_work.specs.Steps.{StepsFrom};
 
-    /// The load of a task that was claimed. It stands within each history whose task it is.
+    /// The load of a task that was claimed. It stands within each history whose task it is: at the history itself where the head
+    /// is not there yet, and else before the head.
     pub fn new(alloc: Global, script: &'a Script, task: LoadTask) -> Result<TaskLoad<'a>, NoMemory>
         requires claimed { IsClaimed script.now (LoadTaskOf task) }
         ensures stands { IfOk result (λ load. (rule : ServiceRule) (h : List Entry) → IsTaskOf rule script.now h (LoadTaskOf task) → StandsWithin rule h load) }
+        ensures at { IfOk result (λ load. (rule : ServiceRule) (h : List Entry) → IsTaskOf rule script.now h (LoadTaskOf task) → has_head h task.request ≡ false → StandsAt rule h load) }
         ensures task { IfOk result (λ load. load.task ≡ task) }
         ensures script { IfOk result (λ load. script_of load ≡ script.now) }
     {
