@@ -98,10 +98,10 @@ whole : {X : Type 0} (len : ℕ) (xs rest : List X) → length xs ≡ len → ta
 whole len xs rest is = take-append-le len xs rest (omega (arith, is)) ∙ take_all len xs (omega (arith, is))
 
 -- they are at the desk, have seen as much, and weigh the same
-pub record AreStaffed (rule : ServiceRule) (s : ScriptData) (desk : TableId) (h : List Entry) (total : ℕ) (seats : List Seat) : Type 0 where
-  pub seats : AreSeats rule s desk seats
-  pub seen : HaveSeen h seats
-  pub weight : weights seats ≡ total
+pub record AreStaffed (rule : ServiceRule) (s : ScriptData) (desk : TableId) (h : List Entry) (total : ℕ) (all : List Seat) : Type 0 where
+  pub seats : AreSeats rule s desk all
+  pub seen : HaveSeen h all
+  pub weight : weights all ≡ total
 
 pub after_work : (rule : ServiceRule) (s : ScriptData) (desk : TableId) (h : List Entry) (len total : ℕ) (first lent left : List Seat) → length lent ≡ len → lent ≡ first
     → AreSeats rule s desk first → HaveSeen h first → weights first ≡ total → HaveWorked rule s lent left → AreStaffed rule s desk h total (take len (left ++ drop (length left) first))
