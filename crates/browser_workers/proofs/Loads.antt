@@ -1,7 +1,7 @@
 -- The steps of a load, as they are brought back.
 use Rattle.std.proofs.Common.{ap, arith, refl, subst, sym, ◌∙◌}
 use Rattle.std.proofs.Math.Seq.{take-length}
-use Rattle.std.specs.Prelude.{◌≡◌, ◌<◌, ◌++◌, ◌∷◌, [], List, Bool, Some, false, length, take, true, ℕ}
+use Rattle.std.specs.Prelude.{◌≡◌, ◌<◌, ◌++◌, ◌∷◌, [], List, Bool, Err, IfOk, Ok, Result, Some, false, length, take, true, ℕ}
 use Rattle.history_entry.specs.declared.entry.Entry.{Entry}
 use Rattle.script_model.specs.ScriptData.{ScriptData}
 use Rattle.service_rule.specs.Services.{ServiceRule}
@@ -85,3 +85,8 @@ goes_on_behind rule s outcome seen after place more brought = record {
   added = brought.brings.extends.added;
   more = more;
 }
+
+-- what an answer says, where it is one
+pub more_map : {F : Type 0} (r : Result Bool F) (P Q : Bool → Type 0) → ((more : Bool) → P more → Q more) → IfOk r P → IfOk r Q
+more_map (Ok more) P Q step is = step more is
+more_map (Err e) P Q step is = tt

@@ -1,7 +1,8 @@
 -- Lists of workers' places.
 use Rattle.std.proofs.Common.{ap, arith, get_or, refl, subst, sym, ◌∙◌}
+use Rattle.std.proofs.lemmas.List.{take-append-le, take_all}
 use Rattle.std.proofs.lemmas.List.Sums.{sum_by-cons, sum_by_push}
-use Rattle.std.specs.Prelude.{◌≡◌, ◌+◌, ◌<◌, ◌++◌, ◌∷◌, [], List, length, suc, true, zero, ⊤, ℕ}
+use Rattle.std.specs.Prelude.{◌≡◌, ◌+◌, ◌<◌, ◌≤◌, ◌++◌, ◌∷◌, [], List, drop, length, suc, take, true, zero, ⊤, ℕ}
 use Rattle.std.specs.List.{AllByRecursion}
 use Rattle.atomic_table.specs.Seated.{TableId}
 use Rattle.history_entry.specs.declared.entry.Entry.{Entry}
@@ -81,3 +82,32 @@ takes_out rule s desk all rest x is seats =
 
 pub takes_out_some : (rule : ServiceRule) (s : ScriptData) (desk : TableId) (seats : List Seat) → 0 < weights seats → seats ≡ [] → ⊥
 takes_out_some rule s desk seats some none = (let zero : weights seats ≡ 0 = ap weights none in omega (arith, zero, some))
+
+-- ---- the places after the work, in the list that was lent
+
+pub by_call : (rule : ServiceRule) (s : ScriptData) (x y a b : Seat) → a ≡ x → b ≡ y → HasWorked rule s a b → HasWorked rule s x y
+by_call rule s x y a b before after worked = subst (λ (v : Seat). HasWorked rule s x v) after (subst (λ (v : Seat). HasWorked rule s v b) before worked)
+
+same_length : (rule : ServiceRule) (s : ScriptData) (xs ys : List Seat) → HaveWorked rule s xs ys → length ys ≡ length xs
+same_length rule s [] [] worked = refl
+same_length rule s [] (y ∷ ys) worked = absurd worked
+same_length rule s (x ∷ xs) [] worked = absurd worked
+same_length rule s (x ∷ xs) (y ∷ ys) worked = (let rest = same_length rule s xs ys worked.1 in omega (arith, rest))
+
+whole : {X : Type 0} (len : ℕ) (xs rest : List X) → length xs ≡ len → take len (xs ++ rest) ≡ xs
+whole len xs rest is = take-append-le len xs rest (omega (arith, is)) ∙ take_all len xs (omega (arith, is))
+
+-- they are at the desk, have seen as much, and weigh the same
+pub record AreStaffed (rule : ServiceRule) (s : ScriptData) (desk : TableId) (h : List Entry) (total : ℕ) (all : List Seat) : Type 0 where
+  pub seats : AreSeats rule s desk all
+  pub seen : HaveSeen h all
+  pub weight : weights all ≡ total
+
+pub after_work : (rule : ServiceRule) (s : ScriptData) (desk : TableId) (h : List Entry) (len total : ℕ) (first lent left : List Seat) → length lent ≡ len → lent ≡ first
+    → AreSeats rule s desk first → HaveSeen h first → weights first ≡ total → HaveWorked rule s lent left → AreStaffed rule s desk h total (take len (left ++ drop (length left) first))
+after_work rule s desk h len total first lent left long same seats seen weight worked =
+    subst (AreStaffed rule s desk h total) (sym (whole len left (drop (length left) first) (same_length rule s lent left worked ∙ long))) (record {
+      seats = still_seats rule s desk lent left (subst (AreSeats rule s desk) (sym same) seats) worked;
+      seen = still_seen rule s h lent left (subst (HaveSeen h) (sym same) seen) worked;
+      weight = same_weights rule s lent left worked ∙ (ap weights same ∙ weight);
+    })

@@ -89,6 +89,7 @@ fn run_named<'a, V: Service + Drop + Send, J: Named + Send + Sync, G: Gate + Syn
 }
 
 /// The core, where each worker saw its finished history.
+#[tactic(auto, using(crate::proofs::Over::is_over))]
 fn finished_core<'a, V: Service + Drop>(
     core: Core<'a, V>,
     finished: bool,

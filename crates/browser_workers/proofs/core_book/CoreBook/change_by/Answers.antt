@@ -1,0 +1,9 @@
+use Rattle.std.proofs.Common.{sym, ◌∙◌}
+use Rattle.browser_workers.proofs.Booking.{is_legal}
+use Rattle.browser_workers.proofs.core_book.CoreBook.change_by.Goals as goal
+
+pub change_in-requires : goal.change_in-requires
+change_in-requires g c =
+    let book = c.args.self.now in
+    is_legal g.V.Service.rule book.core.script book.script.now book.core.entries c.entries-entries.result.now (book.core_is ∙ sym book.script_is)
+    (sym (c.entries-entries.ensures ∙ c.history.ensures.history)) c.history.ensures.legal
