@@ -1,6 +1,6 @@
 -- What the calls of a core tell the table.
-use Rattle.std.proofs.Common.{ap, inl, inr, refl, subst, sym, ◌∙◌}
-use Rattle.std.specs.Prelude.{◌≡◌, ◌⊎◌, ◌++◌, ◌∷◌, [], List, None, Option, ℕ}
+use Rattle.std.proofs.Common.{ap, inl, inr, subst, sym}
+use Rattle.std.specs.Prelude.{◌≡◌, ◌⊎◌, List, None, Option, ℕ}
 use Rattle.history_entry.specs.declared.entry.Entry.{Entry}
 use Rattle.script_model.specs.ScriptData.{ScriptData}
 use Rattle.service_rule.specs.Services.{ServiceRule}
@@ -21,7 +21,6 @@ use Rattle.browser_core.specs.Claiming as core
 use Rattle.browser_core.specs.Cores.{CoreData}
 use Rattle.browser_core.specs.declared.applying.Applied.{Applied}
 use Rattle.browser_core.specs.declared.applying.Applied.TheVariants.{Entry as Added, Stale}
-use Rattle.task_work.specs.Claimed.{IsTaskOf}
 use Rattle.browser_workers.specs.Asking.{Claims}
 use Rattle.browser_workers.specs.Booking.{IsChangeOf, IsKnown}
 

@@ -1,7 +1,7 @@
 -- The steps of a load, as they are brought back.
-use Rattle.std.proofs.Common.{ap, arith, refl, subst, sym, ◌∙◌}
+use Rattle.std.proofs.Common.{arith, refl, subst, sym}
 use Rattle.std.proofs.Math.Seq.{take-length}
-use Rattle.std.specs.Prelude.{◌≡◌, ◌<◌, ◌++◌, ◌∷◌, [], List, Bool, Err, IfOk, Ok, Result, Some, false, length, take, true, ℕ}
+use Rattle.std.specs.Prelude.{◌≡◌, ◌<◌, List, Bool, Err, IfOk, Ok, Result, false, length, take, true, ℕ}
 use Rattle.history_entry.specs.declared.entry.Entry.{Entry}
 use Rattle.script_model.specs.ScriptData.{ScriptData}
 use Rattle.service_rule.specs.Services.{ServiceRule}
@@ -13,18 +13,16 @@ use Rattle.history_laws.proofs.Honest.{process_hosts}
 use Rattle.history_steps.proofs.Locks.{hosted_started}
 use Rattle.history_steps.specs.Run.{Legal}
 use Rattle.policy_table.specs.Histories.{StartsWith}
-use Rattle.policy_table.specs.declared.standing.Standing.{Standing}
 use Rattle.policy_table.specs.declared.standing.Standing.TheVariants.{Dead}
 use Rattle.process_standings.specs.Standings.{table_standing}
 use Rattle.read_verdict.specs.declared.step.Step.{Step}
 use Rattle.read_verdict.specs.declared.step.Step.TheVariants.{Blocked, Fault, Gone, Head, Held, Piece, Whole}
 use Rattle.browser_tasks.specs.Outcomes.{IsOutcome, goes_on}
-use Rattle.browser_core.specs.declared.applying.Applied.{Applied}
-use Rattle.browser_core.specs.declared.applying.Applied.TheVariants.{Entry as Added, Stale}
+use Rattle.browser_core.specs.declared.applying.Applied.TheVariants.{Entry as Added}
 use Rattle.browser_tasks.specs.declared.outcome.Outcome.{Outcome}
 use Rattle.task_work.specs.Laws.{GoneComesBack, LoadsGoOn, StandingStays, StepsComeBack}
 use Rattle.task_work.specs.Stands.{StandsWithin, script_of}
-use Rattle.task_work.specs.Steps.{StepsFrom, TellsResponse, outcome_of}
+use Rattle.task_work.specs.Steps.{StepsFrom, outcome_of}
 use Rattle.task_work.specs.declared.load.TaskLoad.{TaskLoad}
 use Rattle.browser_workers.specs.Asking.{IsBrought, MayBring}
 use Rattle.browser_workers.specs.Loads.{GoesOnBehind, is_held}

@@ -2,14 +2,13 @@
 use Rattle.std.proofs.Common.{ap, arith, refl, subst, sym, ◌∙◌}
 use Rattle.std.proofs.Math.Seq.{take-length}
 use Rattle.std.proofs.lemmas.List.{append-nil, take-append-le}
-use Rattle.std.specs.Prelude.{◌≡◌, ◌<◌, ◌≤◌, ◌++◌, ◌∷◌, [], Contains, List, Some, length, slice_get, take, ℕ}
+use Rattle.std.specs.Prelude.{◌≡◌, ◌++◌, ◌∷◌, [], Contains, List, Some, length, slice_get, take}
 use Rattle.history_entry.specs.declared.entry.Entry.{Entry}
 use Rattle.script_model.specs.ScriptData.{ScriptData}
 use Rattle.service_rule.specs.Services.{ServiceRule}
 use Rattle.history_steps.proofs.Induction.{legal_take}
 use Rattle.history_steps.proofs.TheNexts.{are_the_nexts}
 use Rattle.history_steps.specs.MayFollow.{MayFollow}
-use Rattle.history_steps.specs.Nexts.{nexts}
 use Rattle.history_steps.specs.Run.{Finished, Legal}
 use Rattle.browser_workers.specs.Seats.{BeginsFinished}
 

@@ -1,10 +1,10 @@
 -- What a pass has seen after its calls.
 use Rattle.std.proofs.Common.{ap, inl, inr, refl, subst, sym, ◌∙◌}
-use Rattle.std.specs.Prelude.{◌≡◌, ◌⊎◌, ◌++◌, ◌∷◌, [], List, Err, IfErr, IfOk, Ok, Result, ⊤}
+use Rattle.std.specs.Prelude.{◌∷◌, [], List, Err, IfErr, IfOk, Ok, Result}
 use Rattle.history_entry.specs.declared.entry.Entry.{Entry}
 use Rattle.policy_table.proofs.Lists.{starts_with_itself, starts_with_start}
-use Rattle.policy_table.specs.Histories.{AddsOne, StartsWith}
-use Rattle.policy_table.specs.Known.{CallsAt, Finds, Known, Looks, seeing}
+use Rattle.policy_table.specs.Histories.{StartsWith}
+use Rattle.policy_table.specs.Known.{CallsAt, Finds, Known, Looks}
 use Rattle.script_model.specs.ScriptData.{ScriptData}
 use Rattle.service_rule.specs.Services.{ServiceRule}
 use Rattle.browser_workers.specs.Asking.{Does, IsTold}

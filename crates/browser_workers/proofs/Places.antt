@@ -2,7 +2,7 @@
 use Rattle.std.proofs.Common.{ap, arith, get_or, refl, subst, sym, ◌∙◌}
 use Rattle.std.proofs.lemmas.List.{take-append-le, take_all}
 use Rattle.std.proofs.lemmas.List.Sums.{sum_by-cons, sum_by_push}
-use Rattle.std.specs.Prelude.{◌≡◌, ◌+◌, ◌<◌, ◌≤◌, ◌++◌, ◌∷◌, [], List, drop, length, suc, take, true, zero, ⊤, ℕ}
+use Rattle.std.specs.Prelude.{◌≡◌, ◌+◌, ◌<◌, ◌++◌, ◌∷◌, [], List, drop, length, suc, take, ℕ}
 use Rattle.std.specs.List.{AllByRecursion}
 use Rattle.atomic_table.specs.Seated.{TableId}
 use Rattle.history_entry.specs.declared.entry.Entry.{Entry}
@@ -52,7 +52,7 @@ module _ (rule : ServiceRule) (s : ScriptData) where
   same_weights [] [] worked = refl
   same_weights [] (y ∷ ys) worked = absurd worked
   same_weights (x ∷ xs) [] worked = absurd worked
-  same_weights (x ∷ xs) (y ∷ ys) worked = 
+  same_weights (x ∷ xs) (y ∷ ys) worked =
       (let rest = same_weights xs ys worked.1 in
       let own = worked.0.on.weight in
       let before = sum_by-cons (λ (seat : Seat). seat.pass.weight) x xs in

@@ -1,5 +1,5 @@
 -- What workers ask of the core under the turn, and what they are told. Own rules.
-use Rattle.std.specs.Prelude.{◌≡◌, List, ⊤, ℕ}
+use Rattle.std.specs.Prelude.{◌≡◌, List, ⊤}
 use Rattle.history_entry.specs.declared.entry.Entry.{Entry}
 use Rattle.script_model.specs.ScriptData.{ScriptData}
 use Rattle.service_rule.specs.Services.{ServiceRule}

@@ -3,7 +3,7 @@ use Rattle.std.proofs.Common.{arith, inl, inr, subst, sym, ◌∙◌}
 use Rattle.std.proofs.Math.Seq.{take-length}
 use Rattle.std.proofs.lemmas.Bool.{cases_lt}
 use Rattle.std.proofs.lemmas.List.{length-append, take-append-le, take_all}
-use Rattle.std.specs.Prelude.{◌≡◌, ◌+◌, ◌<◌, ◌≤◌, ◌++◌, List, length, take, ⊤, ℕ}
+use Rattle.std.specs.Prelude.{◌≡◌, ◌++◌, List, length, take, ℕ}
 use Rattle.history_entry.specs.declared.entry.Entry.{Entry}
 use Rattle.script_model.specs.ScriptData.{ScriptData}
 use Rattle.service_rule.specs.Services.{ServiceRule}

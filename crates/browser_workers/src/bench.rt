@@ -24,7 +24,9 @@ use std::sync::atomic::{AtomicBool, Ordering};
 pub(crate) trait Bench {
     // The identity of the desk, the rule of the core's services, and the script.
     ghost desk: { Self → TableId };
+
     ghost rule: { ServiceRule };
+
     ghost pages: { ScriptData };
 
     fn script(&self) -> &Script

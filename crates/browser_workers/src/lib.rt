@@ -22,4 +22,3 @@ pub use browser_core::{Core, Kind, Service, Store, TaskKey};
 pub use gate::{Gate, NoGate, Point};
 pub use policy_table::{NoMemory, Standing};
 pub use run::run_workers;
-

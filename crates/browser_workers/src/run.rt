@@ -42,7 +42,13 @@ pub fn run_workers<'a, V: Service + Drop + Send, G: Gate + Sync, R: Threads + Wa
 }
 
 /// The same, for a script that a type names.
-fn run_named<'a, V: Service + Drop + Send, J: Named + Send + Sync, G: Gate + Sync, R: Threads + Wait + Sync>(
+fn run_named<
+    'a,
+    V: Service + Drop + Send,
+    J: Named + Send + Sync,
+    G: Gate + Sync,
+    R: Threads + Wait + Sync,
+>(
     rt: &R,
     alloc: Global,
     script: &'a Script,

@@ -1,4 +1,4 @@
-use Rattle.std.proofs.Common.{◌≡◌, Bool, Ok, ap, false, subst, sym, true, ℕ, ◌∙◌}
+use Rattle.std.proofs.Common.{◌≡◌, Bool, Ok, ap, subst, sym, true, ℕ, ◌∙◌}
 use Rattle.read_verdict.specs.declared.step.Step.{Step}
 use Rattle.browser_tasks.specs.declared.outcome.Outcome.TheVariants as outcomes
 use Rattle.work_queue.specs.declared.task.LoadTask.{LoadTask}
