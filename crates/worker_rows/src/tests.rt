@@ -13,6 +13,7 @@ use std::test::Fail;
 use std::thread::Threads;
 
 /// Counts the points that workers come to.
+#[derive(Drop)]
 struct Tally {
     claimed: AtomicU64,
     returned: AtomicU64,
