@@ -11,6 +11,7 @@ const GOLDEN: u64 = 0x9e37_79b9_7f4a_7c15;
 const MOST_TURNS: u64 = 200;
 
 /// Delays each worker at each point by as many turns as it draws.
+#[derive(Drop)]
 pub struct Delays {
     state: AtomicU64,
 }

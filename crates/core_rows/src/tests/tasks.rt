@@ -154,6 +154,49 @@ commit 0 2 https://a.com 68747470733a2f2f612e636f6d2f32 => ok
 exit 1
 ",
     },
+    Row {
+        shows: "what a document said as one action is too late where its next action says the same",
+        script: r#"{"start":["https://a.com/"],"resources":[{"url":"https://a.com/","actions":[
+{"do":"fetch","url":"https://a.com/d","mode":"cors"},{"do":"fetch","url":"https://a.com/d","mode":"cors"}]}]}"#,
+        steps: &[
+            Do::First(3),
+            Do::Claim(Kind::Renderer, TaskKey::Act(0)),
+            Do::Bring(0, Came::Done, Applied::Entry(3)),
+            Do::Bring(0, Came::Done, Applied::Stale(3)),
+            Do::Claim(Kind::Renderer, TaskKey::Act(0)),
+            Do::Bring(1, Came::Done, Applied::Entry(4)),
+        ],
+        history: "open 0
+order 0 0 https://a.com https://a.com https://a.com/
+commit 0 0 https://a.com 68747470733a2f2f612e636f6d2f => ok
+said 0 0 0 0 fetch cors https://a.com 68747470733a2f2f612e636f6d2f64 => ok
+said 0 0 1 0 fetch cors https://a.com 68747470733a2f2f612e636f6d2f64 => ok
+",
+    },
+    Row {
+        shows: "a load is out behind its head and its pieces, until its end",
+        script: r#"{"start":["https://a.com/"],"resources":[{"url":"https://a.com/","actions":[
+{"do":"fetch","url":"https://a.com/d","mode":"cors"}]},{"url":"https://a.com/d","body":"x"}]}"#,
+        steps: &[
+            Do::First(4),
+            Do::Claim(Kind::Loader, TaskKey::Load(0)),
+            Do::Bring(0, Came::Head, Applied::Entry(4)),
+            Do::None(Kind::Loader, 1),
+            Do::Bring(0, Came::Piece(0, "x"), Applied::Entry(5)),
+            Do::None(Kind::Loader, 1),
+            Do::Bring(0, Came::Whole, Applied::Entry(6)),
+            Do::None(Kind::Loader, 0),
+            Do::Finished,
+        ],
+        history: "open 0
+order 0 0 https://a.com https://a.com https://a.com/
+commit 0 0 https://a.com 68747470733a2f2f612e636f6d2f => ok
+said 0 0 0 0 fetch cors https://a.com 68747470733a2f2f612e636f6d2f64 => ok
+head 0 A1
+piece 0 0 78
+end 0 whole
+",
+    },
 ];
 
 #[test]
