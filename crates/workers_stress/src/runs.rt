@@ -8,6 +8,9 @@ use std::alloc::Global;
 use std::sync::Wait;
 use std::thread::Threads;
 
+/// The most bytes of a text.
+const ROOM: usize = 4_194_304;
+
 const STEP: usize = 4096;
 
 fn source_of(alloc: Global, input: &str) -> Result<MemSource, NoMemory> {
@@ -24,7 +27,7 @@ pub fn run_text<R: Threads + Wait + Sync, G: Gate + Sync>(
     gate: &G,
 ) -> Result<Option<String>, NoMemory> {
     let mut source = source_of(alloc, script)?;
-    let mut sink = MemSink::new(alloc, STEP, STEP, Vec::new(alloc))?;
+    let mut sink = MemSink::new(alloc, ROOM, STEP, Vec::new(alloc))?;
     let words = ["run", workers];
     match browse(rt, alloc, &words, &mut source, &mut sink, gate) {
         Status::Ran => Ok(Some(String::from_utf8_lossy(alloc, sink.written())?)),
@@ -36,7 +39,7 @@ pub fn run_text<R: Threads + Wait + Sync, G: Gate + Sync>(
 pub fn is_audited(alloc: Global, script: &str, text: &str) -> Result<bool, NoMemory> {
     let input = format!(in alloc; "script {}\n{script}{text}", script.len())?;
     let mut source = source_of(alloc, input.as_str())?;
-    let mut sink = MemSink::new(alloc, STEP, STEP, Vec::new(alloc))?;
+    let mut sink = MemSink::new(alloc, ROOM, STEP, Vec::new(alloc))?;
     let status = browse_one(alloc, &["audit"], &mut source, &mut sink);
     Ok(matches!(status, Status::Ran))
 }
