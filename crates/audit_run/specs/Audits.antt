@@ -1,6 +1,6 @@
 -- What an audit tells of a text: of which history it is the text, under the policy that the text has, and whether that history is legal
 -- and finished for the script with that policy. Own rules.
-use Rattle.std.specs.Prelude.{◌≡◌, ◌+◌, ◌-◌, ◌^◌, ℕ, List, Some, length, min, option_map, slice_get, take}
+use Rattle.std.specs.Prelude.{◌≡◌, ℕ, List, Some, length, option_map, slice_get, take, ⊤}
 use Rattle.history_entry.specs.Kinds.{kind_of}
 use Rattle.history_entry.specs.declared.entry.Entry.{Entry}
 use Rattle.history_entry.specs.declared.entry.EntryKind.{EntryKind}
@@ -10,7 +10,7 @@ use Rattle.service_rule.specs.Services.{ServiceRule}
 use Rattle.history_steps.specs.MayFollow.{MayFollow}
 use Rattle.history_steps.specs.Run.{Finished, IsRun, Legal, first_next}
 use Rattle.history_entries.specs.Text.{text_of}
-use Rattle.history_text.specs.Texts.{IsFirstBadLine, IsTextOf, first_line, policy_of}
+use Rattle.history_text.specs.Texts.{IsFirstBadLine, IsTextOf, line_number, policy_of}
 use Rattle.audit_run.specs.declared.answer.Audit.{Audit}
 use Rattle.audit_run.specs.declared.answer.Audit.TheVariants.{BadLine, Entry as BadEntry, Legal as IsLegal, Unfinished}
 
@@ -21,10 +21,6 @@ with_policy policy s = record s { policy = policy }
 -- the script with the policy of a text
 abbrev pub under_text : List ℕ → ScriptData → ScriptData
 under_text text s = with_policy (policy_of text) s
-
--- the number of the line of the entry at place i, from 0. A line past 2^32 - 1 is told as 2^32 - 1
-abbrev pub line_at : Policy → ℕ → ℕ
-line_at policy i = min (i + first_line policy) (2 ^ 32 - 1)
 
 -- the entry at place i is the first that may not follow those before it
 pub record IsFirstIllegal (rule : ServiceRule) (s : ScriptData) (h : List Entry) (i : ℕ) : Type 0 where
@@ -43,7 +39,7 @@ pub record IsFinishedWith (rule : ServiceRule) (s : ScriptData) (h : List Entry)
 pub record IsIllegalAt (rule : ServiceRule) (s : ScriptData) (h : List Entry) (n : ℕ) : Type 0 where
   pub place : ℕ
   pub first : IsFirstIllegal rule s h place
-  pub line : n ≡ line_at s.policy place
+  pub line : n ≡ line_number s.policy place
 
 -- a legal history that is not finished: the first of the entries that may follow is of this kind
 pub record IsUnfinishedAt (rule : ServiceRule) (s : ScriptData) (h : List Entry) (kind : EntryKind) : Type 0 where
@@ -60,6 +56,13 @@ IsTold rule s h (Unfinished kind) = IsUnfinishedAt rule s h kind
 -- what is told of the history whose text it is
 abbrev pub IsToldOfText : ServiceRule → ScriptData → List ℕ → Audit → Type 0
 IsToldOfText rule s text a = (h : List Entry) × IsTextOf (policy_of text) text h × IsTold rule (under_text text s) h a
+
+-- it is told of a legal history: one that is finished, or one that may go on
+abbrev pub TellsLegal : Audit → Type 0
+TellsLegal (IsLegal n) = ⊤
+TellsLegal (BadLine n) = ⊥
+TellsLegal (BadEntry n) = ⊥
+TellsLegal (Unfinished kind) = ⊤
 
 -- P holds of the history whose text it is
 abbrev pub HoldsOfText : List ℕ → (List Entry → Type 0) → Type 0

@@ -1,3 +1,5 @@
+//! What an audit tells.
+
 use history::EntryKind;
 
 /// What an audit tells of a text.

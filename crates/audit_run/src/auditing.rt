@@ -1,20 +1,19 @@
 //! The audit of a text.
 
-ghost use Rattle.std.specs.Prelude.{◌≡◌, ℕ, Ok, IfOk, length};
+ghost use Rattle.std.specs.Prelude.{◌≡◌, IfOk, length};
 ghost use Rattle.history_steps.specs.Run.{Legal};
-ghost use Rattle.history_text.specs.Texts.{first_line};
 ghost use Rattle.history_laws.specs.CommitLaw.{CommitLaw};
 ghost use Rattle.history_laws.specs.JudgementLaw.{HonestLaw, JudgementLaw};
 ghost use Rattle.history_laws.specs.KillLaw.{KillLaw};
 ghost use Rattle.history_laws.specs.ReceiveLaw.{ReceiveLaw};
-ghost use Rattle.audit_run.specs.Audits.{HoldsOfText, IsAudit, IsTold, line_at, under_text};
+ghost use Rattle.audit_run.specs.Audits.{HoldsOfText, IsAudit, IsTold, TellsLegal, under_text};
 ghost use Rattle.audit_run.specs.Steps.{IsFollowed};
 ghost use Rattle.audit_run.specs.declared.answer.Audit.{Audit as AuditData};
 
 use crate::answer::Audit;
-use history::{Entry, History, Policy, may, nexts};
+use history::{Entry, History, may, nexts};
 use history_laws::script_is_within_limits;
-use history_text::{TextStop, read_text};
+use history_text::{TextStop, line_number, read_text};
 use script_model::{NoMemory, Script, ServiceRule};
 use std::alloc::Global;
 
@@ -44,25 +43,6 @@ fn follow<R: ServiceRule>(
         history.push(entry)?;
     }
     Ok(Followed::Whole(history))
-}
-
-fn first_line(policy: Policy) -> u32
-    ensures { result ≡ first_line policy }
-{
-    match policy {
-        Policy::One => 1,
-        Policy::Two => 2,
-    }
-}
-
-/// The number of the line of the entry at a place.
-fn line_at(policy: Policy, place: usize) -> u32
-    ensures { result ≡ line_at policy place }
-{
-    match u32::try_from(place) {
-        Ok(place) => place.saturating_add(first_line(policy)),
-        Err(_) => u32::MAX,
-    }
 }
 
 /// The number of entries of a legal history, which is below 400,000.
@@ -100,7 +80,7 @@ fn audit_history<R: ServiceRule>(
 {
     match follow(alloc, script, services, history.into_entries())? {
         Followed::Whole(history) => audit_legal(alloc, script, services, &history),
-        Followed::UpTo(place) => Ok(Audit::Entry(line_at(script.policy, place))),
+        Followed::UpTo(place) => Ok(Audit::Entry(line_number(script.policy, place))),
     }
 }
 
@@ -133,12 +113,12 @@ pub fn audit<R: ServiceRule>(
     ensures audit { IfOk result (IsAudit R.rule script text.now) }
     ensures exact { (a : AuditData) → IsAudit R.rule script text.now a → IfOk result (λ told. told ≡ a) }
 
-    // Of a text that passes all laws hold.
-    ensures commit { (n : ℕ) → result ≡ Ok (Audit.Legal n) → HoldsOfText text.now (CommitLaw R.rule (under_text text.now script)) }
-    ensures receive { (n : ℕ) → result ≡ Ok (Audit.Legal n) → HoldsOfText text.now (ReceiveLaw R.rule (under_text text.now script)) }
-    ensures judgement { (n : ℕ) → result ≡ Ok (Audit.Legal n) → HoldsOfText text.now (JudgementLaw R.rule (under_text text.now script)) }
-    ensures kill { (n : ℕ) → result ≡ Ok (Audit.Legal n) → HoldsOfText text.now (KillLaw (under_text text.now script)) }
-    ensures honest { (n : ℕ) → result ≡ Ok (Audit.Legal n) → HoldsOfText text.now (HonestLaw (under_text text.now script)) }
+    // Of the text of a legal history all laws hold, and of a finished one what they say of finished histories.
+    ensures commit { IfOk result (λ told. TellsLegal told → HoldsOfText text.now (CommitLaw R.rule (under_text text.now script))) }
+    ensures receive { IfOk result (λ told. TellsLegal told → HoldsOfText text.now (ReceiveLaw R.rule (under_text text.now script))) }
+    ensures judgement { IfOk result (λ told. TellsLegal told → HoldsOfText text.now (JudgementLaw R.rule (under_text text.now script))) }
+    ensures kill { IfOk result (λ told. TellsLegal told → HoldsOfText text.now (KillLaw (under_text text.now script))) }
+    ensures honest { IfOk result (λ told. TellsLegal told → HoldsOfText text.now (HonestLaw (under_text text.now script))) }
 {
     audit_text(alloc, script, services, text)
 }

@@ -1,4 +1,3 @@
-pub mod KeptEntries
 pub mod Forms
 pub mod Jobs
 pub mod Hosting

@@ -4,19 +4,9 @@ ghost use Rattle.std.specs.List.{AllByRecursion};
 ghost use Rattle.entry_reading.specs.Entries.{IsEntry};
 ghost use Rattle.kept_entries.specs.KeptScripts.{IsKeptScript};
 
-use entry_reading::entry_is_kept;
+use entry_reading::entries_are_kept;
 use kept_entries::script_is_kept;
 use plain_facts::PlainFacts;
-use script_model::Entry;
-
-#[tactic(auto, using(crate::proofs::KeptEntries::entries_more))]
-fn entries_are_kept(entries: &[Entry])
-    ensures { AllByRecursion IsEntry entries.now }
-{
-    for entry in entries {
-        entry_is_kept(entry);
-    }
-}
 
 /// Says what the types keep of a script and of the entries of its history. It only looks at them.
 pub(crate) fn facts_are_kept(facts: &PlainFacts<'_>)

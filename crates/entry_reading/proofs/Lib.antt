@@ -9,3 +9,4 @@ pub mod BodiesSpelled
 pub mod LinesSpelled
 pub mod Answered
 pub mod FirstLine
+pub mod KeptEntries

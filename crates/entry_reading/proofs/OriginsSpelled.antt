@@ -15,11 +15,11 @@ use Rattle.page_origin.specs.declared.origin.TupleOrigin.{TupleOrigin}
 use Rattle.page_origin.specs.declared.origin.Origin.{Origin}
 use Rattle.page_origin.specs.declared.origin.Origin.TheVariants.{Opaque, Tuple}
 use Rattle.decimal_text.specs.Numbers.{decimal_number}
-use Rattle.history_entry.specs.RuleText.{rule_text}
+use Rattle.history_entry.specs.RuleText.{all_rules, rule_text}
 use Rattle.history_entry.specs.declared.rule.Rule.{Rule}
 use Rattle.call_answers.specs.Chains.{◌>>=◌}
 use Rattle.entry_text.specs.Lines.{field, origin_line}
-use Rattle.entry_reading.specs.Fields.{before, field_by, has_code, host_length, host_of, is_written_port, isolated_site_of, onwards, opaque_of, origin_of, past, port_of, rule_of, rules, scheme_of, shared_site_of, site_of, tuple_by, tuple_of}
+use Rattle.entry_reading.specs.Fields.{before, field_by, has_code, host_length, host_of, is_written_port, isolated_site_of, onwards, opaque_of, origin_of, past, port_of, rule_of, scheme_of, shared_site_of, site_of, tuple_by, tuple_of}
 use Rattle.entry_reading.proofs.FieldsSpelled.{Front, around_whole, bind_some, chosen, decimal_is, passed, past_is, value_there}
 
 -- ---- tuples
@@ -163,7 +163,7 @@ found text (first ∷ all) rule is =
 
 pub rule_is : (text : List ℕ) (rule : Rule) → rule_of text ≡ Some rule → rule_text rule ≡ text
 unfolding has_code rule_of
-rule_is text rule is = (bytes_eq-Decides (rule_text rule) text).0 (found text rules rule is)
+rule_is text rule is = (bytes_eq-Decides (rule_text rule) text).0 (found text all_rules rule is)
 
 pub rule_there : (text : List ℕ) (p : Rule × List ℕ) → field_by rule_of text ≡ Some p → Front (field (rule_text p.0)) p.1 text
 rule_there = value_there rule_of rule_text rule_is

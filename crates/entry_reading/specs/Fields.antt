@@ -16,9 +16,8 @@ use Rattle.page_origin.specs.declared.origin.TupleOrigin.{TupleOrigin}
 use Rattle.page_origin.specs.declared.origin.Origin.{Origin}
 use Rattle.page_origin.specs.declared.origin.Origin.TheVariants.{Opaque, Tuple}
 use Rattle.decimal_text.specs.Numbers.{decimal_number}
-use Rattle.history_entry.specs.RuleText.{rule_text}
+use Rattle.history_entry.specs.RuleText.{all_rules, rule_text}
 use Rattle.history_entry.specs.declared.rule.Rule.{Rule}
-use Rattle.history_entry.specs.declared.rule.Rule.TheVariants.{K1, K2, K3, K4, K5, K6, K7, K8, K9, K10, G1, G2, G3, M1, M2, N1, N2, N3, N4, N5, N6, N7, N8, N9, F1, L1, L2, S1, S2, S3, S4, A1, A2, A3, A4, A5, B1, B2, B3, B4, B5, B6, B7, B8}
 
 -- what stands before the first mark
 abbrev pub before : ℕ → List ℕ → List ℕ
@@ -139,15 +138,10 @@ unfoldable pub origin_of : List ℕ → Option Origin
 origin_of text = if starts_with nat_eq text (codes "opaque:") then opaque_of (drop 7 text)
     else (tuple_of text >>= λ tuple. Some (Tuple tuple))
 
--- all rules
-abbrev pub rules : List Rule
-rules = K1 ∷ K2 ∷ K3 ∷ K4 ∷ K5 ∷ K6 ∷ K7 ∷ K8 ∷ K9 ∷ K10 ∷ G1 ∷ G2 ∷ G3 ∷ M1 ∷ M2 ∷ N1 ∷ N2 ∷ N3 ∷ N4 ∷ N5 ∷ N6 ∷ N7 ∷ N8 ∷ N9
-    ∷ F1 ∷ L1 ∷ L2 ∷ S1 ∷ S2 ∷ S3 ∷ S4 ∷ A1 ∷ A2 ∷ A3 ∷ A4 ∷ A5 ∷ B1 ∷ B2 ∷ B3 ∷ B4 ∷ B5 ∷ B6 ∷ B7 ∷ B8 ∷ []
-
 -- whether a text is the code of a rule
 unfoldable pub has_code : List ℕ → Rule → Bool
 has_code text rule = bytes_eq (rule_text rule) text
 
 -- the rule of a code
 unfoldable pub rule_of : List ℕ → Option Rule
-rule_of text = find (has_code text) rules
+rule_of text = find (has_code text) all_rules

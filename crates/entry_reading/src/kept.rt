@@ -1,6 +1,7 @@
 //! What the types of entries, messages and replies keep.
 
 ghost use Rattle.std.specs.Prelude.{◌<◌, length};
+ghost use Rattle.std.specs.List.{AllByRecursion};
 ghost use Rattle.hex.specs.Hex.{IsBytes};
 ghost use Rattle.entry_reading.specs.Entries as entries;
 
@@ -40,7 +41,8 @@ fn origin_is_kept(origin: &Origin)
     }
 }
 
-fn source_is_kept(source: &Src)
+/// Every source of a frame is one that its type keeps.
+pub fn source_is_kept(source: &Src)
     ensures { entries.IsSource source.now }
 {
     match source {
@@ -51,7 +53,8 @@ fn source_is_kept(source: &Src)
     }
 }
 
-fn target_is_kept(target: &Target)
+/// Every target of a post is one that its type keeps.
+pub fn target_is_kept(target: &Target)
     ensures { entries.IsTarget target.now }
 {
     match target {
@@ -213,5 +216,15 @@ pub fn entry_is_kept(entry: &Entry)
         Entry::Head(number, _) => number_is_kept(*number),
         Entry::End(number, _) => number_is_kept(*number),
         Entry::Exit(number) => number_is_kept(*number),
+    }
+}
+
+/// Every entry of a list is one that its type keeps.
+#[tactic(auto, using(crate::proofs::KeptEntries::entries_more))]
+pub fn entries_are_kept(history: &[Entry])
+    ensures { AllByRecursion entries.IsEntry history.now }
+{
+    for entry in history {
+        entry_is_kept(entry);
     }
 }

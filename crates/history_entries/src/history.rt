@@ -39,6 +39,7 @@ impl History {
         Ok(())
     }
 
+    /// The entries, in order.
     pub fn entries(&self) -> &[Entry]
         ensures { result.now ≡ self.now }
     {
@@ -83,6 +84,7 @@ impl Model for Roomy {
 }
 
 impl Roomy {
+    /// The entries, in order.
     pub fn entries(&self) -> &[Entry]
         ensures { result.now ≡ self.now }
     {

@@ -1,5 +1,5 @@
--- The codes of the rules: a letter and a number. Own format.
-use Rattle.std.specs.Prelude.{ℕ, List, codes}
+-- The codes of the rules, a letter and a number, and the list of all rules. Own format.
+use Rattle.std.specs.Prelude.{◌∷◌, [], ℕ, List, codes}
 use Rattle.history_entry.specs.declared.rule.Rule.{Rule}
 use Rattle.history_entry.specs.declared.rule.Rule.TheVariants.{K1, K2, K3, K4, K5, K6, K7, K8, K9, K10, G1, G2, G3, M1, M2, N1, N2, N3, N4, N5, N6, N7, N8, N9, F1, L1, L2, S1, S2, S3, S4, A1, A2, A3, A4, A5, B1, B2, B3, B4, B5, B6, B7, B8}
 
@@ -49,3 +49,8 @@ rule_text B5 = codes "B5"
 rule_text B6 = codes "B6"
 rule_text B7 = codes "B7"
 rule_text B8 = codes "B8"
+
+-- every rule once, in the order in which a summary has them
+abbrev pub all_rules : List Rule
+all_rules = K1 ∷ K2 ∷ K3 ∷ K4 ∷ K5 ∷ K6 ∷ K7 ∷ K8 ∷ K9 ∷ K10 ∷ G1 ∷ G2 ∷ G3 ∷ M1 ∷ M2 ∷ N1 ∷ N2 ∷ N3 ∷ N4 ∷ N5 ∷ N6 ∷ N7 ∷ N8 ∷ N9
+    ∷ F1 ∷ L1 ∷ L2 ∷ S1 ∷ S2 ∷ S3 ∷ S4 ∷ A1 ∷ A2 ∷ A3 ∷ A4 ∷ A5 ∷ B1 ∷ B2 ∷ B3 ∷ B4 ∷ B5 ∷ B6 ∷ B7 ∷ B8 ∷ []

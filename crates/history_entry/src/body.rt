@@ -78,6 +78,7 @@ pub struct Message {
 }
 
 impl Src {
+    /// An equal source, in memory of its own.
     pub fn copy(&self, alloc: Global) -> Result<Self, NoMemory>
         ensures { IfOk result (λ copy. copy ≡ self.now) }
     {
@@ -89,6 +90,7 @@ impl Src {
 }
 
 impl Target {
+    /// An equal target, in memory of its own.
     pub fn copy(&self, alloc: Global) -> Result<Self, NoMemory>
         ensures { IfOk result (λ copy. copy ≡ self.now) }
     {
@@ -101,6 +103,7 @@ impl Target {
 }
 
 impl Message {
+    /// An equal message, in memory of its own.
     pub fn copy(&self, alloc: Global) -> Result<Self, NoMemory>
         ensures { IfOk result (λ copy. copy ≡ self.now) }
     {
@@ -112,6 +115,7 @@ impl Message {
 }
 
 impl Body {
+    /// An equal body, in memory of its own.
     pub fn copy(&self, alloc: Global) -> Result<Self, NoMemory>
         ensures { IfOk result (λ copy. copy ≡ self.now) }
     {

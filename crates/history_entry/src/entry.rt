@@ -99,6 +99,7 @@ impl EndHow {
 }
 
 impl LocalWhat {
+    /// An equal deed, in memory of its own.
     pub fn copy(&self, alloc: Global) -> Result<Self, NoMemory>
         ensures { IfOk result (λ copy. copy ≡ self.now) }
     {
@@ -114,6 +115,7 @@ impl LocalWhat {
 }
 
 impl Entry {
+    /// Which of the thirteen kinds the entry is of.
     pub fn kind(&self) -> EntryKind
         ensures { result ≡ kind_of self.now }
     {
@@ -146,6 +148,7 @@ impl Entry {
         }
     }
 
+    /// An equal entry, in memory of its own.
     pub fn copy(&self, alloc: Global) -> Result<Self, NoMemory>
         ensures { IfOk result (λ copy. copy ≡ self.now) }
     {

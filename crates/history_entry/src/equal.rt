@@ -2,13 +2,13 @@
 
 ghost use Rattle.std.specs.Prelude.{◌≡◌, ◌↔◌, IsTrue};
 
-use crate::body::{Body, Message, Src, Target};
+use crate::body::{Body, Message, Mode, Src, Target};
 use crate::entry::{EndHow, Entry, HopOf, LocalWhat};
 use crate::piece::PieceBytes;
 use crate::reply::Reply;
 use crate::rule::Rule;
 use crate::text::{RawUrl, RequestText, ServiceName};
-use page_origin::{UrlText, equal_origins, equal_sites};
+use page_origin::{Origin, UrlText, equal_origins, equal_sites};
 
 fn equal_rules(a: &Rule, b: &Rule) -> bool
     ensures { IsTrue result ↔ (a.now ≡ b.now) }
@@ -80,84 +80,150 @@ fn equal_targets(a: &Target, b: &Target) -> bool
     }
 }
 
+fn is_navigation(body: &Body, frame: u32, url: &RawUrl, initiator: &Origin) -> bool
+    ensures { IsTrue result ↔ (Body.Navigate frame url.now initiator.now ≡ body.now) }
+{
+    match body {
+        Body::Navigate {
+            frame: other_frame,
+            url: other_url,
+            initiator: other_initiator,
+        } => {
+            frame == *other_frame
+                && equal_raw_urls(url, other_url)
+                && equal_origins(initiator, other_initiator)
+        }
+        _ => false,
+    }
+}
+
+fn is_frame(body: &Body, src: &Src, sandbox: bool) -> bool
+    ensures { IsTrue result ↔ (Body.AddFrame src.now sandbox ≡ body.now) }
+{
+    match body {
+        Body::AddFrame {
+            src: other_src,
+            sandbox: other_sandbox,
+        } => sandbox == *other_sandbox && equal_sources(src, other_src),
+        _ => false,
+    }
+}
+
+fn is_fetch(body: &Body, url: &RawUrl, mode: Mode, initiator: &Origin) -> bool
+    ensures { IsTrue result ↔ (Body.Fetch url.now mode initiator.now ≡ body.now) }
+{
+    match body {
+        Body::Fetch {
+            url: other_url,
+            mode: other_mode,
+            initiator: other_initiator,
+        } => {
+            mode == *other_mode
+                && equal_raw_urls(url, other_url)
+                && equal_origins(initiator, other_initiator)
+        }
+        _ => false,
+    }
+}
+
+fn is_post(body: &Body, frame: u32, target: &Target, source: &Origin, text: &RequestText) -> bool
+    ensures { IsTrue result ↔ (Body.Post frame target.now source.now text.now ≡ body.now) }
+{
+    match body {
+        Body::Post {
+            frame: other_frame,
+            target: other_target,
+            source: other_source,
+            text: other_text,
+        } => {
+            frame == *other_frame
+                && equal_targets(target, other_target)
+                && equal_origins(source, other_source)
+                && equal_texts(text, other_text)
+        }
+        _ => false,
+    }
+}
+
+fn is_ask(body: &Body, service: &ServiceName, origin: &Origin, request: &RequestText) -> bool
+    ensures { IsTrue result ↔ (Body.Ask service.now origin.now request.now ≡ body.now) }
+{
+    match body {
+        Body::Ask {
+            service: other_service,
+            origin: other_origin,
+            request: other_request,
+        } => {
+            equal_names(service, other_service)
+                && equal_origins(origin, other_origin)
+                && equal_texts(request, other_request)
+        }
+        _ => false,
+    }
+}
+
+fn is_commit(body: &Body, nav: u32, url: &RawUrl, origin: &Origin) -> bool
+    ensures { IsTrue result ↔ (Body.DidCommit nav url.now origin.now ≡ body.now) }
+{
+    match body {
+        Body::DidCommit {
+            nav: other_nav,
+            url: other_url,
+            origin: other_origin,
+        } => {
+            nav == *other_nav
+                && equal_raw_urls(url, other_url)
+                && equal_origins(origin, other_origin)
+        }
+        _ => false,
+    }
+}
+
 fn equal_bodies(a: &Body, b: &Body) -> bool
     ensures { IsTrue result ↔ (a.now ≡ b.now) }
 {
     match (a, b) {
         (
             Body::Navigate {
-                frame: af,
-                url: au,
-                initiator: ai,
+                frame,
+                url,
+                initiator,
             },
-            Body::Navigate {
-                frame: bf,
-                url: bu,
-                initiator: bi,
-            },
-        ) => af == bf && equal_raw_urls(au, bu) && equal_origins(ai, bi),
-        (
-            Body::AddFrame {
-                src: ar,
-                sandbox: at,
-            },
-            Body::AddFrame {
-                src: br,
-                sandbox: bt,
-            },
-        ) => at == bt && equal_sources(ar, br),
-        (Body::RemoveFrame { frame: af }, Body::RemoveFrame { frame: bf }) => af == bf,
-        (Body::OpenPage { url: au }, Body::OpenPage { url: bu }) => equal_raw_urls(au, bu),
-        (
-            Body::DidCommit {
-                nav: af,
-                url: au,
-                origin: ai,
-            },
-            Body::DidCommit {
-                nav: bf,
-                url: bu,
-                origin: bi,
-            },
-        ) => af == bf && equal_raw_urls(au, bu) && equal_origins(ai, bi),
+            other,
+        ) => is_navigation(other, *frame, url, initiator),
+        (Body::AddFrame { src, sandbox }, other) => is_frame(other, src, *sandbox),
+        (Body::RemoveFrame { frame }, Body::RemoveFrame { frame: other_frame }) => {
+            frame == other_frame
+        }
+        (Body::OpenPage { url }, Body::OpenPage { url: other_url }) => {
+            equal_raw_urls(url, other_url)
+        }
         (
             Body::Fetch {
-                mode: af,
-                url: au,
-                initiator: ai,
+                url,
+                mode,
+                initiator,
             },
-            Body::Fetch {
-                mode: bf,
-                url: bu,
-                initiator: bi,
-            },
-        ) => af == bf && equal_raw_urls(au, bu) && equal_origins(ai, bi),
+            other,
+        ) => is_fetch(other, url, *mode, initiator),
         (
             Body::Post {
-                frame: af,
-                target: at,
-                source: au,
-                text: ai,
+                frame,
+                target,
+                source,
+                text,
             },
-            Body::Post {
-                frame: bf,
-                target: bt,
-                source: bu,
-                text: bi,
-            },
-        ) => af == bf && equal_origins(au, bu) && equal_texts(ai, bi) && equal_targets(at, bt),
+            other,
+        ) => is_post(other, *frame, target, source, text),
         (
             Body::Ask {
-                service: af,
-                origin: au,
-                request: ai,
+                service,
+                origin,
+                request,
             },
-            Body::Ask {
-                service: bf,
-                origin: bu,
-                request: bi,
-            },
-        ) => equal_names(af, bf) && equal_origins(au, bu) && equal_texts(ai, bi),
+            other,
+        ) => is_ask(other, service, origin, request),
+        (Body::DidCommit { nav, url, origin }, other) => is_commit(other, *nav, url, origin),
         _ => false,
     }
 }
@@ -194,6 +260,7 @@ fn equal_locals(a: &LocalWhat, b: &LocalWhat) -> bool
     }
 }
 
+/// Whether two entries are equal as whole values.
 pub fn equal_entries(a: &Entry, b: &Entry) -> bool
     ensures { IsTrue result ↔ (a.now ≡ b.now) }
 {

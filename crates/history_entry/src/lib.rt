@@ -8,6 +8,7 @@
 mod body;
 mod entry;
 mod equal;
+pub mod laws;
 mod piece;
 mod plain_text;
 mod policy;

@@ -21,6 +21,7 @@ impl Model for PieceBytes {
 }
 
 impl PieceBytes {
+    /// The piece with these bytes, of which there is at least one.
     pub fn new(bytes: Vec<u8>) -> Self
         requires { 0 < length bytes.items }
         ensures { result ≡ bytes.items }
@@ -28,6 +29,7 @@ impl PieceBytes {
         PieceBytes { bytes }
     }
 
+    /// The bytes of the piece, at least one.
     pub fn as_bytes(&self) -> &[u8]
         ensures bytes { result.now ≡ self.now }
         ensures some { 0 < length self.now }
@@ -35,6 +37,7 @@ impl PieceBytes {
         self.bytes.as_slice()
     }
 
+    /// An equal piece, in memory of its own.
     pub fn copy(&self, alloc: Global) -> Result<Self, NoMemory>
         ensures { IfOk result (λ copy. copy ≡ self.now) }
     {

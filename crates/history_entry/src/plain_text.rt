@@ -4,7 +4,7 @@ use page_origin::NoMemory;
 use std::alloc::Global;
 use std::marker::Model;
 
-// A text, which contracts see as its bytes.
+/// A text, which contracts see as its bytes.
 #[derive(Drop)]
 pub struct PlainText {
     text: String,
@@ -19,12 +19,14 @@ impl Model for PlainText {
 }
 
 impl PlainText {
+    /// This text, whatever it is.
     pub fn new(text: String) -> Self
         ensures { result ≡ string_bytes text }
     {
         PlainText { text }
     }
 
+    /// A copy of a text.
     pub fn of(alloc: Global, text: &str) -> Result<Self, NoMemory>
         ensures { IfOk result (λ copy. copy ≡ text.now) }
     {
@@ -32,6 +34,7 @@ impl PlainText {
         Ok(PlainText { text })
     }
 
+    /// The text.
     pub fn as_str(&self) -> &str
         ensures { result.now ≡ self.now }
     {

@@ -31,6 +31,7 @@ impl Reply {
         }
     }
 
+    /// An equal reply, in memory of its own.
     pub fn copy(&self, alloc: Global) -> Result<Self, NoMemory>
         ensures { IfOk result (λ copy. copy ≡ self.now) }
     {

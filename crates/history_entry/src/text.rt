@@ -22,6 +22,7 @@ impl Model for RawUrl {
 }
 
 impl RawUrl {
+    /// The URL as this text gives it, whatever the text is.
     pub fn new(text: String) -> Self
         ensures { result ≡ string_bytes text }
     {
@@ -30,6 +31,7 @@ impl RawUrl {
         }
     }
 
+    /// The URL as a copy of this text gives it.
     pub fn of(alloc: Global, text: &str) -> Result<Self, NoMemory>
         ensures { IfOk result (λ copy. copy ≡ text.now) }
     {
@@ -38,12 +40,14 @@ impl RawUrl {
         })
     }
 
+    /// The text as it was given.
     pub fn as_str(&self) -> &str
         ensures { result.now ≡ self.now }
     {
         self.text.as_str()
     }
 
+    /// An equal URL, in memory of its own.
     pub fn copy(&self, alloc: Global) -> Result<Self, NoMemory>
         ensures { IfOk result (λ copy. copy ≡ self.now) }
     {
@@ -68,6 +72,7 @@ impl Model for RequestText {
 }
 
 impl RequestText {
+    /// The text of a request, an answer or a post, whatever it is.
     pub fn new(text: String) -> Self
         ensures { result ≡ string_bytes text }
     {
@@ -76,6 +81,7 @@ impl RequestText {
         }
     }
 
+    /// The text of a request, an answer or a post, as a copy.
     pub fn of(alloc: Global, text: &str) -> Result<Self, NoMemory>
         ensures { IfOk result (λ copy. copy ≡ text.now) }
     {
@@ -84,12 +90,14 @@ impl RequestText {
         })
     }
 
+    /// The text as it was given.
     pub fn as_str(&self) -> &str
         ensures { result.now ≡ self.now }
     {
         self.text.as_str()
     }
 
+    /// An equal text, in memory of its own.
     pub fn copy(&self, alloc: Global) -> Result<Self, NoMemory>
         ensures { IfOk result (λ copy. copy ≡ self.now) }
     {
@@ -114,6 +122,7 @@ impl Model for ServiceName {
 }
 
 impl ServiceName {
+    /// The name of a service, whatever the text is.
     pub fn new(text: String) -> Self
         ensures { result ≡ string_bytes text }
     {
@@ -122,6 +131,7 @@ impl ServiceName {
         }
     }
 
+    /// The name of a service, as a copy of this text.
     pub fn of(alloc: Global, text: &str) -> Result<Self, NoMemory>
         ensures { IfOk result (λ copy. copy ≡ text.now) }
     {
@@ -130,12 +140,14 @@ impl ServiceName {
         })
     }
 
+    /// The text of the name.
     pub fn as_str(&self) -> &str
         ensures { result.now ≡ self.now }
     {
         self.text.as_str()
     }
 
+    /// An equal name, in memory of its own.
     pub fn copy(&self, alloc: Global) -> Result<Self, NoMemory>
         ensures { IfOk result (λ copy. copy ≡ self.now) }
     {

@@ -1,6 +1,6 @@
 -- Texts that begin with the lines of entries.
 use Rattle.std.proofs.Common.{◌≡◌, ◌⊎◌, ℕ, ◌+◌, ◌-◌, ◌<◌, ◌^◌, Bool, true, false, ◌==◌, List, [], ◌∷◌, ◌++◌, length, drop, Ok, Err, refl, sym, ap, ◌∙◌, subst, arith, inl, inr, suc, append_assoc, append-nil, length-append}
-use Rattle.std.specs.Prelude.{IfOk, Result, codes, min, nat_eq, if◌then◌else◌}
+use Rattle.std.specs.Prelude.{IfOk, Result, codes, nat_eq, if◌then◌else◌}
 use Rattle.std.specs.List.{starts_with}
 use Rattle.std.proofs.lemmas.Bool.{eqb-true}
 use Rattle.std.proofs.lemmas.Bool.Decides.{Decides-eqb}
@@ -20,7 +20,7 @@ use Rattle.entry_reading.proofs.LinesBack.{before_feed, one_line}
 use Rattle.history_entries.specs.Text.{head_of, lines_of, text_of, version_line}
 use Rattle.history_text.specs.declared.stop.TextStop.{TextStop}
 use Rattle.history_text.specs.declared.stop.TextStop.TheVariants.{BadLine, NoMemory}
-use Rattle.history_text.specs.Texts.{AreEntriesOf, BeginsWithNoLineOf, HasRuleOf, IsEntryOf, IsFirstBadLine, IsTextOf, first_line, policy_of}
+use Rattle.history_text.specs.Texts.{AreEntriesOf, BeginsWithNoLineOf, HasRuleOf, IsEntryOf, IsFirstBadLine, IsTextOf, line_number, policy_of}
 
 -- ---- entries of a policy
 
@@ -105,7 +105,7 @@ text_read policy h rest lines all whole none =
     (all, ap (λ t. head_of policy ++ t) ended)
 
 -- a text that is read up to a bad line
-pub text_stopped : (policy : Policy) (h : List Entry) (rest lines : List ℕ) (n : ℕ) → AreEntriesOf policy h → lines_of h ++ rest ≡ lines → (length rest == 0) ≡ false → BeginsWithNoLineOf policy rest → n ≡ min (length h + first_line policy) (2 ^ 32 - 1) → IsFirstBadLine policy (head_of policy ++ lines) n
+pub text_stopped : (policy : Policy) (h : List Entry) (rest lines : List ℕ) (n : ℕ) → AreEntriesOf policy h → lines_of h ++ rest ≡ lines → (length rest == 0) ≡ false → BeginsWithNoLineOf policy rest → n ≡ line_number policy (length h) → IsFirstBadLine policy (head_of policy ++ lines) n
 text_stopped policy h rest lines n all whole some bad number = record {
   before = h;
   rest = rest;
@@ -172,7 +172,7 @@ one_number policy bytes n m a b =
     let right = append_assoc (head_of policy) (lines_of b.before) b.rest in
     let same : lines_of a.before ++ a.rest ≡ lines_of b.before ++ b.rest = lines_same policy (lines_of a.before ++ a.rest) (lines_of b.before ++ b.rest) (sym left ∙ a.whole ∙ sym b.whole ∙ right) in
     let equal : a.before ≡ b.before = same_entries policy a.before b.before a.rest b.rest a.entries b.entries a.bad b.bad same in
-    a.number ∙ ap (λ (h : List Entry). min (length h + first_line policy) (2 ^ 32 - 1)) equal ∙ sym b.number
+    a.number ∙ ap (λ (h : List Entry). line_number policy (length h)) equal ∙ sym b.number
 
 abbrev Answer : Type 0
 Answer = Result (Policy × List Entry) TextStop

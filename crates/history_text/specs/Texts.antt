@@ -19,6 +19,10 @@ abbrev pub first_line : Policy → ℕ
 first_line One = 1
 first_line Two = 2
 
+-- the number of the line behind those of so many entries. A line past 2^32 - 1 is told as 2^32 - 1
+abbrev pub line_number : Policy → ℕ → ℕ
+line_number policy entries = min (entries + first_line policy) (2 ^ 32 - 1)
+
 -- the rule that an entry carries is one of the policy: B8 is none of the first
 abbrev pub HasRuleOf : Policy → Entry → Type 0
 HasRuleOf One e = carried_rule e ≢ Some B8
@@ -49,7 +53,7 @@ pub record IsFirstBadLine (policy : Policy) (bytes : List ℕ) (n : ℕ) : Type 
   pub whole : text_of policy before ++ rest ≡ bytes
   pub some : 0 < length rest
   pub bad : BeginsWithNoLineOf policy rest
-  pub number : n ≡ min (length before + first_line policy) (2 ^ 32 - 1)
+  pub number : n ≡ line_number policy (length before)
 
 -- equal texts of histories under one policy are of equal histories
 abbrev pub HaveOneText : Type 0

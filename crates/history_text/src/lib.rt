@@ -15,7 +15,7 @@ pub use entry_reading::{EntryStop, MessageStop, ReplyStop, read_entry, read_mess
 pub use entry_text::{message_text, reply_text};
 pub use kept::history_is_kept;
 pub use laws::{histories_have_one_text, texts_have_one_policy};
-pub use reading::read_text;
+pub use reading::{line_number, read_text};
 pub use stop::TextStop;
 
 #[cfg(test)]

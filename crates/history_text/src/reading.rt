@@ -6,7 +6,7 @@ ghost use Rattle.history_entry.specs.declared.entry.Entry.{Entry as EntryData};
 ghost use Rattle.history_entry.specs.declared.policy.Policy.{Policy as PolicyData};
 ghost use Rattle.entry_text.specs.Lines.{line_of};
 ghost use Rattle.history_entries.specs.Text.{head_of};
-ghost use Rattle.history_text.specs.Texts.{BeginsWithNoLineOf, HasRuleOf, IsEntryOf, IsFirstBadLine, IsTextOf, first_line, policy_of};
+ghost use Rattle.history_text.specs.Texts.{BeginsWithNoLineOf, HasRuleOf, IsEntryOf, IsFirstBadLine, IsTextOf, first_line, line_number, policy_of};
 
 use crate::stop::TextStop;
 use entry_reading::{EntryStop, read_line};
@@ -62,9 +62,10 @@ fn first_line(policy: Policy) -> u32
     }
 }
 
-/// The number of the line behind those of so many entries.
-fn line_number(policy: Policy, entries: usize) -> u32
-    ensures { result ≡ min (entries + first_line policy) (2 ^ 32 - 1) }
+/// The number of the line behind those of so many entries of a text, from 1; the version line counts. A line past 2^32 - 1 is told
+/// as 2^32 - 1.
+pub fn line_number(policy: Policy, entries: usize) -> u32
+    ensures { result ≡ line_number policy entries }
 {
     match u32::try_from(entries) {
         Ok(entries) => entries.saturating_add(first_line(policy)),

@@ -1,3 +1,5 @@
+//! Why bytes are the text of no history.
+
 use page_origin::NoMemory;
 use thiserror::Error;
 

@@ -8,10 +8,10 @@ ghost use Rattle.page_origin.specs.UrlText.{is_url_spelling};
 ghost use Rattle.entry_reading.specs.Entries as entries;
 ghost use Rattle.kept_entries.specs.KeptScripts as scripts;
 
+use entry_reading::{source_is_kept, target_is_kept};
 use http_header::HeaderMap;
 use script_model::{
-    Action, FieldText, Origin, PageUrl, RawBody, RawMessage, Resource, Script, Site, Src, Target,
-    TupleOrigin,
+    Action, FieldText, PageUrl, RawBody, RawMessage, Resource, Script, TupleOrigin,
 };
 
 fn number_is_kept(_number: u32)
@@ -35,48 +35,6 @@ fn claim_is_kept(claim: &Option<TupleOrigin>)
     match claim {
         Some(tuple) => tuple_is_kept(tuple),
         None => {}
-    }
-}
-
-fn site_is_kept(site: &Site)
-    ensures { entries.IsSite site.now }
-{
-    let _host = site.host.as_str();
-    match site.only {
-        Some(port) => port_is_kept(port),
-        None => {}
-    }
-}
-
-fn origin_is_kept(origin: &Origin)
-    ensures { entries.IsOrigin origin.now }
-{
-    match origin {
-        Origin::Tuple(tuple) => tuple_is_kept(tuple),
-        Origin::Opaque(opaque) => {
-            number_is_kept(opaque.document);
-            site_is_kept(&opaque.precursor);
-        }
-    }
-}
-
-fn source_is_kept(source: &Src)
-    ensures { entries.IsSource source.now }
-{
-    match source {
-        Src::Url(url) => {
-            let _url = url.as_str();
-        }
-        Src::Doc(index) => number_is_kept(*index),
-    }
-}
-
-fn target_is_kept(target: &Target)
-    ensures { entries.IsTarget target.now }
-{
-    match target {
-        Target::Any | Target::Own => {}
-        Target::Of(origin) => origin_is_kept(origin),
     }
 }
 

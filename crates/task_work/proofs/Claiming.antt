@@ -1,6 +1,6 @@
 -- A task that was ready, and holds the facts of its history, is one of the history.
 use Rattle.std.proofs.Common.{ap, sym, ◌∙◌}
-use Rattle.std.specs.Prelude.{◌++◌, ◌∷◌, [], List}
+use Rattle.std.specs.Prelude.{List}
 use Rattle.std.specs.List.{AllByRecursion}
 use Rattle.entry_reading.specs.Entries.{IsEntry}
 use Rattle.history_entry.specs.declared.entry.Entry.{Entry}
@@ -20,10 +20,6 @@ use Rattle.browser_tasks.specs.Objects.{IsOfKey}
 use Rattle.browser_tasks.specs.Readiness.{IsReady}
 use Rattle.browser_tasks.specs.TaskData.{HoldsFacts}
 use Rattle.task_work.specs.Claimed.{IsReadTask, IsTaskOf}
-
-pub entries_more : (h : List Entry) (e : Entry) → AllByRecursion IsEntry h → IsEntry e → AllByRecursion IsEntry (h ++ e ∷ [])
-entries_more [] e kept is = (is, tt)
-entries_more (x ∷ h) e kept is = (kept.0, entries_more h e kept.1 is)
 
 module _ (s : ScriptData) (h : List Entry) (script : IsKeptScript s) (kept : AllByRecursion IsEntry h) (rule : ServiceRule) (legal : Legal rule s h) where
   read_by : (task : Task) (e : Entry) → HoldsFacts s h task → IsOfKey s h (key_of task) e → MayFollow rule s h e → IsReadTask task

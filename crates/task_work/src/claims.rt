@@ -1,8 +1,6 @@
 //! What is known of a task that a core handed out.
 
 ghost use Rattle.std.specs.Prelude.{List};
-ghost use Rattle.std.specs.List.{AllByRecursion};
-ghost use Rattle.entry_reading.specs.Entries.{IsEntry};
 ghost use Rattle.history_steps.specs.Run.{Legal};
 ghost use Rattle.service_rule.specs.Services.{ServiceRule};
 ghost use Rattle.work_queue.specs.Keys.{key_of};
@@ -11,19 +9,10 @@ ghost use Rattle.browser_tasks.specs.Readiness.{IsReady};
 ghost use Rattle.browser_tasks.specs.TaskData.{HoldsFacts};
 ghost use Rattle.task_work.specs.Claimed.{IsTaskOf};
 
-use entry_reading::entry_is_kept;
+use entry_reading::entries_are_kept;
 use kept_entries::script_is_kept;
 use script_model::{Entry, Script};
 use work_queue::Task;
-
-#[tactic(auto, using(crate::proofs::Claiming::entries_more))]
-fn entries_are_kept(entries: &[Entry])
-    ensures { AllByRecursion IsEntry entries.now }
-{
-    for entry in entries {
-        entry_is_kept(entry);
-    }
-}
 
 /// Says that a task that was ready at a legal history, and holds its facts, is one of the history: the URLs of a load name themselves.
 /// It only looks at the script and the entries.

@@ -1,8 +1,7 @@
 use Rattle.std.proofs.Common.{◌≡◌, ◌+◌, ◌-◌, ◌^◌, ◌∙◌, List, ap, length, refl, sym}
-use Rattle.std.specs.Prelude.{min}
 use Rattle.history_entry.specs.declared.entry.Entry.{Entry}
 use Rattle.history_entries.specs.Text.{lines_of}
-use Rattle.history_text.specs.Texts.{first_line}
+use Rattle.history_text.specs.Texts.{line_number}
 use Rattle.history_text.proofs.Lines.{entries_more, lines_more, shorter, text_read, text_stopped}
 use Rattle.history_text.proofs.reading.read_lines.Goals as goal
 
@@ -23,7 +22,7 @@ pub returns-in-Err-BadLine-clause-bad : goal.returns-in-Err-BadLine-clause-bad
 returns-in-Err-BadLine-clause-bad c = λ n is.
     let told : c.line_number-number.result ≡ n = cc in
     text_stopped c.args.policy c.loop-rest.history c.loop-rest.rest.now c.args.lines.now n c.loop-rest.invariant.entries c.loop-rest.invariant.whole (sym c.is_empty.ensures ∙ c.loop-rest-test.true) (c.next_line.ensures.bad (cc))
-    (sym told ∙ c.line_number-number.ensures ∙ ap (λ (h : List Entry). min (length h + first_line c.args.policy) (2 ^ 32 - 1)) c.entries.ensures)
+    (sym told ∙ c.line_number-number.ensures ∙ ap (λ (h : List Entry). line_number c.args.policy (length h)) c.entries.ensures)
 
 pub returns-clause-read : goal.returns-clause-read
 returns-clause-read c =
