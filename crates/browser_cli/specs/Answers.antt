@@ -59,10 +59,10 @@ pub record IsAuditAnswer (input : List ℕ) (status : Status) (output : List ℕ
   pub is_framed : IsFramed input script_text text
   pub is_audit : IsAuditOf script_text text status output
 
--- `gen`: the output is the summary of the one-thread run of the number's script
-pub record IsSummary (number : ℕ) (output : List ℕ) : Type 0 where
+-- the output is the summary of the one-thread run of a script
+pub record IsSummaryOf (script : ScriptData) (output : List ℕ) : Type 0 where
   pub history : List Entry
-  pub is_run : IsRun store_rule (generated number) history
+  pub is_run : IsRun store_rule script history
   pub is_text : output ≡ summary_text history
 
 -- `run`: the input is a script, and the output is the text of one of its finished legal histories
@@ -76,7 +76,7 @@ pub record IsWorkersText (input output : List ℕ) : Type 0 where
 abbrev pub IsAnswer : Command → List ℕ → Status → List ℕ → Type 0
 IsAnswer One input status output = (status ≡ Ran) × IsRunText input output
 IsAnswer Audit input status output = IsAuditAnswer input status output
-IsAnswer (Gen number) input status output = (status ≡ Ran) × IsSummary number output
+IsAnswer (Gen number) input status output = (status ≡ Ran) × IsSummaryOf (generated number) output
 IsAnswer (Run count) input status output = (status ≡ Ran) × IsWorkersText input output
 
 -- the input has a frame, and what stands in it is refused as a script

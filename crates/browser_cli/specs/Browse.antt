@@ -38,10 +38,13 @@ ReadsNothing (Some (Run count)) = ⊥
 abbrev pub WritesOutput : Status → Option (List ℕ) → Option (List ℕ) → Command → List ℕ → Type 0
 WritesOutput status before now command input = (output : List ℕ) × IsAnswer command input status output × Appends before now output
 
--- a part was written of the output that the command makes of its input, from its front on
+-- a part of the output was written, from its front on, and not all of it
+abbrev pub AppendsPart : Option (List ℕ) → Option (List ℕ) → List ℕ → Type 0
+AppendsPart before now output = (sent : ℕ) × (sent < length output) × Appends before now (take sent output)
+
+-- a part was written of the output that the command makes of its input
 abbrev pub WritesPart : Option (List ℕ) → Option (List ℕ) → Command → List ℕ → Type 0
-WritesPart before now command input = (status : Status) × (output : List ℕ) × (sent : ℕ)
-    × IsAnswer command input status output × (sent < length output) × Appends before now (take sent output)
+WritesPart before now command input = (status : Status) × (output : List ℕ) × IsAnswer command input status output × AppendsPart before now output
 
 -- how a command ends over an input that is not too long
 abbrev pub IsEnding : Command → List ℕ → Status → Type 0

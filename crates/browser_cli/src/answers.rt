@@ -1,9 +1,13 @@
 //! What each command makes of its input.
 
-ghost use Rattle.std.specs.Prelude.{◌≡◌, Err, IfOk};
+ghost use Rattle.std.specs.Prelude.{◌≡◌, ◌≤◌, Err, IfOk};
+ghost use Rattle.std.specs.Io.KnownBytes.{Appends};
+ghost use Rattle.browser_io.specs.Faults.{Rose};
+ghost use Rattle.browser_io.specs.Moved.{KeepsTelling};
 ghost use Rattle.script_input.specs.ScriptReading.{script_of};
 ghost use Rattle.script_input.specs.declared.refusal.Refusal.{Refusal as RefusalData};
 ghost use Rattle.browser_cli.specs.Answers as answers;
+ghost use Rattle.browser_cli.specs.Browse.{AppendsPart};
 ghost use Rattle.browser_cli.specs.Commands.{IsOfOneThread};
 ghost use Rattle.browser_cli.specs.declared.command.Command.TheVariants as commands;
 
@@ -12,10 +16,11 @@ use crate::framing::framed;
 use crate::status::{Finding, Status};
 use audit_run::{Audit, audit, audit_line};
 use browser_core::{Store, run};
+use browser_io::{Sink, write_all};
 use history::{Policy, text_of};
 use script_gen::{generate, summary_of};
 use script_input::{Refusal, ScriptStop, read_script};
-use script_model::{NoMemory, PlainStore};
+use script_model::{NoMemory, PlainStore, Script};
 use std::alloc::Global;
 
 /// The code of a refusal of a bad frame: X8.
@@ -29,12 +34,31 @@ pub struct Answer {
 }
 
 /// The status with which a command ends that wrote its whole output.
-pub fn status_of(finding: Option<Finding>) -> Status
+fn status_of(finding: Option<Finding>) -> Status
     ensures { result ≡ answers.status_of_finding finding }
 {
     match finding {
         None => Status::Ran,
         Some(finding) => Status::Illegal(finding),
+    }
+}
+
+/// Writes the output of a command, and says how the command ended.
+pub fn write_answer<K: Sink>(answer: &Answer, sink: &mut K) -> Status
+    ensures ends { ¬ (result ≡ Status.WriteFault) → result ≡ answers.status_of_finding answer.now.finding }
+    ensures all { ¬ (result ≡ Status.WriteFault) → Appends (K.written sink.old) (K.written sink.new) answer.now.output.items }
+
+    // A failed write leaves a part of the output written, from its front on.
+    ensures part { result ≡ Status.WriteFault → AppendsPart (K.written sink.old) (K.written sink.new) answer.now.output.items }
+    ensures fault { result ≡ Status.WriteFault → Rose (K.faults sink.old) (K.faults sink.new) }
+    ensures calm { ¬ (result ≡ Status.WriteFault) → K.faults sink.new ≡ K.faults sink.old }
+
+    ensures later { K.faults sink.old ≤ K.faults sink.new }
+    ensures telling { KeepsTelling (K.written sink.old) (K.written sink.new) }
+{
+    match write_all(sink, &answer.output) {
+        Ok(()) => status_of(answer.finding),
+        Err(_) => Status::WriteFault,
     }
 }
 
@@ -83,11 +107,11 @@ fn audit_input(alloc: Global, input: &[u8]) -> Result<Answer, ScriptStop>
     }
 }
 
-fn summarize(alloc: Global, number: u64) -> Result<Answer, NoMemory>
-    ensures { IfOk result (λ answer. (answers.status_of_finding answer.finding ≡ Status.Ran) × answers.IsSummary number answer.output.items) }
+/// The summary of the one-thread run of a script: what `gen` makes of its script.
+pub fn summarize(alloc: Global, script: &Script) -> Result<Answer, NoMemory>
+    ensures { IfOk result (λ answer. (answers.status_of_finding answer.finding ≡ Status.Ran) × answers.IsSummaryOf script.now answer.output.items) }
 {
-    let script = generate(alloc, number)?;
-    let history = run(alloc, &script, Store::new(alloc))?;
+    let history = run(alloc, script, Store::new(alloc))?;
     Ok(Answer {
         finding: None,
         output: summary_of(alloc, &history)?,
@@ -103,7 +127,7 @@ pub fn answer_of(alloc: Global, command: Command, input: &[u8]) -> Result<Answer
     match command {
         Command::One => run_script(alloc, input),
         Command::Audit => audit_input(alloc, input),
-        Command::Gen(number) => Ok(summarize(alloc, number)?),
+        Command::Gen(number) => Ok(summarize(alloc, &generate(alloc, number)?)?),
         Command::Run(_) => unreachable!(),
     }
 }

@@ -10,11 +10,11 @@ ghost use Rattle.browser_cli.specs.Commands.{input_limit, one_thread_command_of}
 ghost use Rattle.browser_cli.specs.declared.command.Command.{Command as CommandData};
 ghost use Rattle.browser_cli.specs.declared.status.Finding.{Finding as FindingData};
 
-use crate::answers::{answer_of, status_of};
+use crate::answers::{answer_of, write_answer};
 use crate::command::one_thread_command_of;
 use crate::reading::read_input;
 use crate::status::Status;
-use browser_io::{ReadStop, Sink, Source, write_all};
+use browser_io::{ReadStop, Sink, Source};
 use script_input::ScriptStop;
 use std::alloc::Global;
 
@@ -86,10 +86,7 @@ pub fn browse_one<S: Source, K: Sink>(
         Err(ReadStop::NoMemory) => return Status::NoMemory,
     };
     match answer_of(alloc, command, &input) {
-        Ok(answer) => match write_all(sink, &answer.output) {
-            Ok(()) => status_of(answer.finding),
-            Err(_) => Status::WriteFault,
-        },
+        Ok(answer) => write_answer(&answer, sink),
         Err(ScriptStop::Refused(refusal)) => Status::Refused(refusal),
         Err(ScriptStop::NoMemory) => Status::NoMemory,
     }

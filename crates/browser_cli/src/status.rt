@@ -1,3 +1,5 @@
+//! How a run ended, and how that shows outside.
+
 ghost use Rattle.std.specs.Prelude.{◌≡◌, IfOk};
 ghost use Rattle.browser_cli.specs.StatusLines as lines;
 
@@ -35,6 +37,7 @@ pub enum Status {
     Refused(Refusal),
     /// More than the command's bytes were read.
     TooLarge,
+    /// Memory ran out.
     NoMemory,
 }
 
@@ -71,6 +74,7 @@ impl Model for LineText {
 }
 
 impl LineText {
+    /// The line, without its line feed.
     pub fn as_str(&self) -> &str
         ensures { result.now ≡ self.now }
     {

@@ -1,5 +1,6 @@
 ghost use Rattle.std.specs.Prelude.{◌≤◌};
 
+mod audits;
 mod cut_and_failing;
 mod gates;
 mod workers;
@@ -26,12 +27,37 @@ order 0 0 https://b.org https://b.org https://b.org/
 commit 0 0 https://b.org 68747470733a2f2f622e6f72672f => ok
 ";
 
+// A page that reads an image of another site.
+const READER: &str =
+    r#"{"start":["https://a.com/"],"resources":[{"url":"https://a.com/","actions":[{"do":"fetch","url":"https://b.com/x","mode":"no-cors"}]},{"url":"https://b.com/x","headers":[["Content-Type","image/svg+xml"]],"body":"<?xml"}]}"#;
+
 // The exit status, the line on standard error and what was written, of a run over memory.
 #[derive(Drop)]
 struct Ended {
     code: u8,
     line: String,
     written: String,
+}
+
+// A sink that takes so many bytes at a call, one of whose calls may fail.
+fn failing_sink(alloc: Global, step: usize, failing: Option<u64>) -> Result<MemSink, Fail>
+    requires { 1 ≤ step }
+{
+    Ok(MemSink::new(
+        alloc,
+        4096,
+        step,
+        failing.into_iter().collect(alloc)?,
+    )?)
+}
+
+fn ending_of(alloc: Global, status: &Status, sink: &MemSink) -> Result<Ended, Fail> {
+    let line = status_line(alloc, status)?;
+    Ok(Ended {
+        code: status.exit_code(),
+        line: String::from_str(alloc, line.as_str())?,
+        written: String::from_utf8_lossy(alloc, sink.written())?,
+    })
 }
 
 fn run_bytes(
@@ -46,14 +72,9 @@ fn run_bytes(
 {
     let bytes = input.to_vec(alloc)?;
     let mut source = MemSource::new(bytes, step, failing_read.into_iter().collect(alloc)?);
-    let mut sink = MemSink::new(alloc, 4096, step, failing_write.into_iter().collect(alloc)?)?;
+    let mut sink = failing_sink(alloc, step, failing_write)?;
     let status = browse_one(alloc, words, &mut source, &mut sink);
-    let line = status_line(alloc, &status)?;
-    Ok(Ended {
-        code: status.exit_code(),
-        line: String::from_str(alloc, line.as_str())?,
-        written: String::from_utf8_lossy(alloc, sink.written())?,
-    })
+    ending_of(alloc, &status, &sink)
 }
 
 fn run(
@@ -161,124 +182,6 @@ fn words_name_commands(rt: HostRuntime) {
     }
 }
 
-const PAGE_WITHOUT_TEXT: &str =
-    "script 67\n{\"start\":[\"https://a.com/\"],\"resources\":[{\"url\":\"https://a.com/\"}]}";
-
-// A page that reads an image whose resource policy keeps it from other sites, and what each policy makes of its text.
-const KEPT_BACK_TEXT: &str = "script 258
-{\"start\":[\"https://a.com/\"],\"resources\":[{\"url\":\"https://a.com/\",\"actions\":[{\"do\":\"fetch\",\"url\":\"https://b.com/x\",\"mode\":\"no-cors\"}]},{\"url\":\"https://b.com/x\",\"headers\":[[\"Content-Type\",\"image/png\"],[\"Cross-Origin-Resource-Policy\",\"same-site\"]],\"body\":\"x\"}]}open 0
-order 0 0 https://a.com https://a.com https://a.com/
-commit 0 0 https://a.com 68747470733a2f2f612e636f6d2f => ok
-said 0 0 0 0 fetch no-cors https://a.com 68747470733a2f2f622e636f6d2f78 => ok
-head 0 A4
-piece 0 0 78
-end 0 whole
-";
-
-const KEPT_BACK_TEXT_TWO: &str = "script 258
-{\"start\":[\"https://a.com/\"],\"resources\":[{\"url\":\"https://a.com/\",\"actions\":[{\"do\":\"fetch\",\"url\":\"https://b.com/x\",\"mode\":\"no-cors\"}]},{\"url\":\"https://b.com/x\",\"headers\":[[\"Content-Type\",\"image/png\"],[\"Cross-Origin-Resource-Policy\",\"same-site\"]],\"body\":\"x\"}]}history 2
-open 0
-order 0 0 https://a.com https://a.com https://a.com/
-commit 0 0 https://a.com 68747470733a2f2f612e636f6d2f => ok
-said 0 0 0 0 fetch no-cors https://a.com 68747470733a2f2f622e636f6d2f78 => ok
-head 0 A4
-piece 0 0 78
-end 0 whole
-";
-
-// What `audit` reads, with its exit status, its line on standard error, and what it writes.
-const AUDITS: &[(&str, u8, &str, &str)] = &[
-    ("script 12\n{\"start\":[]}", 0, "", "legal 0\n"),
-    ("script 12\n{\"start\":[]}history 2\n", 0, "", "legal 0\n"),
-    (
-        "script 12\n{\"start\":[]}open 0\n",
-        1,
-        "illegal",
-        "illegal line 1\n",
-    ),
-    (
-        "script 12\n{\"start\":[]}history 2\nopen 0\n",
-        1,
-        "illegal",
-        "illegal line 2\n",
-    ),
-    (
-        "script 12\n{\"start\":[]}oops\n",
-        1,
-        "illegal",
-        "bad line 1\n",
-    ),
-    (
-        "script 12\n{\"start\":[]}open 0\noops\n",
-        1,
-        "illegal",
-        "bad line 2\n",
-    ),
-    (
-        "script 28\n{\"start\":[\"https://b.org/\"]}history 2\n",
-        1,
-        "illegal",
-        "unfinished open\n",
-    ),
-    (PAGE_WITHOUT_TEXT, 1, "illegal", "unfinished open\n"),
-    // The resource policy keeps a response back under the second policy alone.
-    (KEPT_BACK_TEXT, 0, "", "legal 7\n"),
-    (KEPT_BACK_TEXT_TWO, 1, "illegal", "illegal line 6\n"),
-    ("", 5, "refused X8", ""),
-    ("script", 5, "refused X8", ""),
-    ("script 12", 5, "refused X8", ""),
-    ("script 12\n", 5, "refused X8", ""),
-    ("script 13\n{\"start\":[]}", 5, "refused X8", ""),
-    ("script 012\n{\"start\":[]}", 5, "refused X8", ""),
-    ("script +12\n{\"start\":[]}", 5, "refused X8", ""),
-    ("script  12\n{\"start\":[]}", 5, "refused X8", ""),
-    ("script 12\r\n{\"start\":[]}", 5, "refused X8", ""),
-    ("script \n{\"start\":[]}", 5, "refused X8", ""),
-    ("Script 12\n{\"start\":[]}", 5, "refused X8", ""),
-    ("scripts 12\n{\"start\":[]}", 5, "refused X8", ""),
-    ("script 4294967296\n", 5, "refused X8", ""),
-    ("{\"start\":[]}", 5, "refused X8", ""),
-    ("script 3\n[]", 5, "refused X8", ""),
-    ("script 2\n[]", 5, "refused X2", ""),
-    ("script 2\n[]oops", 5, "refused X2", ""),
-    ("script 0\n", 5, "refused X1", ""),
-    ("script 11\n{\"start\":[]}", 5, "refused X1", ""),
-];
-
-#[test]
-fn audits_end_with_what_they_find(rt: HostRuntime) -> Result<(), Fail> {
-    for (input, code, line, written) in AUDITS {
-        for step in [1, 8, 4096] {
-            let ended = run(rt.alloc(), &["audit"], input, step, None, None)?;
-            assert_eq!(rt; ended.code, *code, "{input}");
-            assert_eq!(rt; ended.line.as_str(), *line, "{input}");
-            assert_eq!(rt; ended.written.as_str(), *written, "{input}");
-        }
-    }
-    Ok(())
-}
-
-// The text of a run is legal, and each line less leaves it unfinished by the kind that is missing.
-#[test]
-fn texts_of_runs_are_legal(rt: HostRuntime) -> Result<(), Fail> {
-    let alloc = rt.alloc();
-    for (lines, code, written) in [
-        (1, 1, "unfinished open\n"),
-        (2, 1, "unfinished order\n"),
-        (3, 1, "unfinished commit\n"),
-        (4, 0, "legal 3\n"),
-    ] {
-        let mut input = format!(in alloc; "script {}\n{PAGE}", PAGE.len())?;
-        for line in PAGE_TEXT.split_inclusive('\n').take(lines) {
-            input.push_str(line)?;
-        }
-        let ended = run(alloc, &["audit"], &input, 4096, None, None)?;
-        assert_eq!(rt; ended.written.as_str(), written);
-        assert_eq!(rt; ended.code, code);
-    }
-    Ok(())
-}
-
 // The suffix rules, the isolated origin and the start page of a script, and the site and the origin of its order.
 const SITES: &[(&str, &str, &str, &str, &str)] = &[
     (
@@ -366,9 +269,11 @@ fn faults_of_source_and_sink_are_told(rt: HostRuntime) -> Result<(), Fail> {
     let ended = run(rt.alloc(), &["one"], PAGE, 8, None, Some(1))?;
     assert_eq!(rt; (ended.code, ended.line.as_str()), (4, "write fault"));
     assert_eq!(rt; ended.written.as_str(), "history ");
-    let ended = run(rt.alloc(), &["audit"], AUDITS[0].0, 8, Some(1), None)?;
+    let legal = "script 12\n{\"start\":[]}";
+    let ended = run(rt.alloc(), &["audit"], legal, 8, Some(1), None)?;
     assert_eq!(rt; (ended.code, ended.line.as_str()), (3, "read fault"));
-    let ended = run(rt.alloc(), &["audit"], AUDITS[2].0, 8, None, Some(1))?;
+    let illegal = "script 12\n{\"start\":[]}open 0\n";
+    let ended = run(rt.alloc(), &["audit"], illegal, 8, None, Some(1))?;
     assert_eq!(rt; (ended.code, ended.line.as_str()), (4, "write fault"));
     assert_eq!(rt; ended.written.as_str(), "illegal ");
     Ok(())

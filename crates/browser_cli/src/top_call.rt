@@ -17,12 +17,12 @@ ghost use Rattle.browser_cli.specs.Headline.{OfWritten};
 ghost use Rattle.browser_cli.specs.declared.command.Command.{Command as CommandData};
 ghost use Rattle.browser_cli.specs.declared.status.Finding.{Finding as FindingData};
 
-use crate::answers::status_of;
+use crate::answers::write_answer;
 use crate::command::command_of;
 use crate::reading::read_input;
 use crate::status::Status;
 use crate::workers::answer_with_workers;
-use browser_io::{ReadStop, Sink, Source, write_all};
+use browser_io::{ReadStop, Sink, Source};
 use browser_workers::Gate;
 use history_laws::laws::laws_hold;
 use script_input::ScriptStop;
@@ -123,10 +123,7 @@ pub fn browse<R: Threads + Wait + Sync, S: Source, K: Sink, G: Gate + Sync>(
         Err(ReadStop::NoMemory) => return Status::NoMemory,
     };
     match answer_with_workers(rt, alloc, command, &input, gate) {
-        Ok(answer) => match write_all(sink, &answer.output) {
-            Ok(()) => status_of(answer.finding),
-            Err(_) => Status::WriteFault,
-        },
+        Ok(answer) => write_answer(&answer, sink),
         Err(ScriptStop::Refused(refusal)) => Status::Refused(refusal),
         Err(ScriptStop::NoMemory) => Status::NoMemory,
     }

@@ -1,5 +1,7 @@
 //! Each script is run by one, four and sixteen workers.
 
+mod kinds;
+
 use audit_run::{Audit, audit};
 use browser_workers::{Core, Gate, Point, Standing, Store, run_workers};
 use history::text_of;

@@ -2,7 +2,9 @@
 
 ghost use Rattle.std.specs.Prelude.{◌≤◌};
 
-use super::{Ended, PAGE, PAGE_TEXT, run, run_bytes};
+use super::{Ended, PAGE, PAGE_TEXT, READER, ending_of, failing_sink, run, run_bytes};
+use crate::answers::{summarize, write_answer};
+use crate::read_script;
 use std::alloc::Global;
 use std::process::Abort;
 use std::test::Fail;
@@ -10,7 +12,7 @@ use std::test::Fail;
 const STEPS: [usize; 3] = [1, 8, 4096];
 
 /// More calls than any run here makes.
-const CALLS: u64 = 400;
+const CALLS: u64 = 1_000;
 
 // What `audit` reads: the script of a page, and the text of its run.
 fn page_audit(alloc: Global) -> Result<String, Fail> {
@@ -79,11 +81,7 @@ fn each_part_of_a_text_is_told(rt: HostRuntime) -> Result<(), Fail> {
     Ok(())
 }
 
-// A page that reads an image of another site.
-const READER: &str =
-    r#"{"start":["https://a.com/"],"resources":[{"url":"https://a.com/","actions":[{"do":"fetch","url":"https://b.com/x","mode":"no-cors"}]},{"url":"https://b.com/x","headers":[["Content-Type","image/svg+xml"]],"body":"<?xml"}]}"#;
-
-// The text of its run, of version one.
+// The text of the reader's run, of version one.
 const READER_TEXT: &str = "open 0
 order 0 0 https://a.com https://a.com https://a.com/
 commit 0 0 https://a.com 68747470733a2f2f612e636f6d2f => ok
@@ -91,6 +89,12 @@ said 0 0 0 0 fetch no-cors https://a.com 68747470733a2f2f622e636f6d2f78 => ok
 head 0 A4
 piece 0 0 3c3f786d6c
 end 0 whole
+";
+
+// The summary of its run.
+const READER_SUMMARY: &str = "entries 7
+delivered 5
+A4 1
 ";
 
 // What is missing behind so many whole lines of it.
@@ -180,19 +184,44 @@ fn is_write_fault(rt: &impl Abort, ended: &Ended, wanted: &str) {
     assert!(rt; ended.written.len() < wanted.len());
 }
 
+// What writes: a command over its input, or `gen` behind its generator, over a small script in place of the generated one, whose run
+// does not end within a test.
+#[derive(Clone, Copy)]
+enum Writer<'w> {
+    Command(&'w str, &'w str),
+    Summary(&'w str),
+}
+
+fn summarized(alloc: Global, input: &str, step: usize, call: u64) -> Result<Ended, Fail>
+    requires { 1 ≤ step }
+{
+    let answer = summarize(alloc, &read_script(alloc, input.as_bytes())?)?;
+    let mut sink = failing_sink(alloc, step, Some(call))?;
+    let status = write_answer(&answer, &mut sink);
+    ending_of(alloc, &status, &sink)
+}
+
+fn written_by(alloc: Global, writer: Writer<'_>, step: usize, call: u64) -> Result<Ended, Fail>
+    requires { 1 ≤ step }
+{
+    match writer {
+        Writer::Command(word, input) => run(alloc, &[word], input, step, None, Some(call)),
+        Writer::Summary(script) => summarized(alloc, script, step, call),
+    }
+}
+
 // The same of the sink.
 fn each_write_fails(
     rt: &impl Abort,
     alloc: Global,
-    words: &[&str],
-    input: &str,
+    writer: Writer<'_>,
     step: usize,
     wanted: &str,
 ) -> Result<(), Fail>
     requires { 1 ≤ step }
 {
     for call in 0..CALLS {
-        let ended = run(alloc, words, input, step, None, Some(call))?;
+        let ended = written_by(alloc, writer, step, call)?;
         if ended.code == 0 {
             assert_eq!(rt; ended.written.as_str(), wanted);
             assert!(rt; call > 0);
@@ -203,12 +232,26 @@ fn each_write_fails(
     Err(Fail::new("a run makes too many calls"))
 }
 
+// A page whose renderer forges the commit of a bank's page for its child.
+const FORGER: &str =
+    r#"{"start":["https://a.com/"],"resources":[{"url":"https://a.com/","actions":[{"do":"frame","src":"https://a.com/f"},{"do":"raw","message":{"is":"commit","nav":1,"url":"https://bank.com/","origin":"https://bank.com/"}}]}]}"#;
+
+const FORGER_TEXT: &str = "history 2
+open 0
+order 0 0 https://a.com https://a.com https://a.com/
+commit 0 0 https://a.com 68747470733a2f2f612e636f6d2f => ok
+said 0 0 0 0 frame plain url 68747470733a2f2f612e636f6d2f66 => ok
+order 1 0 https://a.com https://a.com https://a.com/f
+said 0 0 1 0 commit 1 https://bank.com 68747470733a2f2f62616e6b2e636f6d2f => kill K9
+";
+
 #[test]
 fn reads_may_fail_at_any_call(rt: HostRuntime) -> Result<(), Fail> {
     let alloc = rt.alloc();
     let audit = page_audit(alloc)?;
     for step in STEPS {
         each_read_fails(&rt, alloc, &["one"], PAGE, step, PAGE_TEXT)?;
+        each_read_fails(&rt, alloc, &["one"], FORGER, step, FORGER_TEXT)?;
         each_read_fails(&rt, alloc, &["audit"], &audit, step, "legal 3\n")?;
     }
     Ok(())
@@ -219,8 +262,10 @@ fn writes_may_fail_at_any_call(rt: HostRuntime) -> Result<(), Fail> {
     let alloc = rt.alloc();
     let audit = page_audit(alloc)?;
     for step in STEPS {
-        each_write_fails(&rt, alloc, &["one"], PAGE, step, PAGE_TEXT)?;
-        each_write_fails(&rt, alloc, &["audit"], &audit, step, "legal 3\n")?;
+        each_write_fails(&rt, alloc, Writer::Command("one", PAGE), step, PAGE_TEXT)?;
+        each_write_fails(&rt, alloc, Writer::Command("one", FORGER), step, FORGER_TEXT)?;
+        each_write_fails(&rt, alloc, Writer::Command("audit", &audit), step, "legal 3\n")?;
+        each_write_fails(&rt, alloc, Writer::Summary(READER), step, READER_SUMMARY)?;
     }
     Ok(())
 }

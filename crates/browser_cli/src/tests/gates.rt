@@ -119,9 +119,9 @@ impl Gate for HeldLoad {
     }
 }
 
-// A shop with an ad: an image, a program, a font and its own cart are loaded at the same time.
+// A shop with an ad, under thirty suffix rules: an image, a program, a font and its own cart are loaded at the same time.
 const SHOP: &str =
-    r#"{"suffixes":"com\nnet\norg\nuk\nco.uk","start":["https://www.shop.co.uk/"],"resources":[
+    r#"{"suffixes":"com\nnet\norg\nio\ndev\nuk\nco.uk\norg.uk\nac.uk\ngov.uk\nde\nfr\nes\nit\njp\nco.jp\nac.jp\nau\ncom.au\nnz\nco.nz\nbr\ncom.br\nin\nco.in\nza\nco.za\nck\n*.ck\n!www.ck","start":["https://www.shop.co.uk/"],"resources":[
 {"url":"https://www.shop.co.uk/","actions":[{"do":"frame","src":"https://ads.adnet.com/"},
 {"do":"fetch","url":"https://cdn.pics.net/a.png","mode":"no-cors"},
 {"do":"fetch","url":"https://cdn.pics.net/a.js","mode":"no-cors"},

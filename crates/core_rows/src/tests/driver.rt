@@ -12,11 +12,11 @@ use page_origin::{PageUrl, UrlClass};
 use read_verdict::{Cleared, Judge, Part};
 use renderer_run::message_of;
 use script_input::read_script;
-use script_model::{NoMemory, Policy, Resource, Rule, Script, find};
+use script_model::{Mode, NoMemory, Policy, Resource, Rule, Script, find};
 use std::alloc::Global;
 use std::process::Abort;
 use std::test::Fail;
-use work_queue::LoadTask;
+use work_queue::{ActTask, LoadTask};
 
 /// What came of a task: of a job or an act the whole of it, of a load one step.
 #[derive(Clone, Copy, Debug)]
@@ -30,6 +30,14 @@ pub enum Came {
     Blocked(Rule),
     Fault,
     Gone,
+    /// Forged: what the action with this number comes to, told of the action that was claimed.
+    ActionOf(u64),
+    /// Forged: a head whose response was judged in this mode.
+    HeadAs(Mode),
+    /// Forged: a head with the leave of this request.
+    HeadFor(u32),
+    /// Forged: the first piece, with these bytes, with the leave of this request.
+    PieceFor(u32, &'static str),
 }
 
 /// One step of a row.
@@ -86,8 +94,14 @@ fn resource_of<'a>(script: &'a Script, task: &LoadTask) -> Result<&'a Resource, 
     }
 }
 
-/// Leave to hand out the response to a request.
-fn leave(alloc: Global, script: &Script, task: &LoadTask) -> Result<Cleared, Fail> {
+/// Leave to hand out the response to a request, judged as that of the request with this number in this mode.
+fn leave(
+    alloc: Global,
+    script: &Script,
+    task: &LoadTask,
+    request: u32,
+    mode: Mode,
+) -> Result<Cleared, Fail> {
     let resource = resource_of(script, task)?;
     let chain = task.chain.as_slice();
     if !is_web_chain(chain) {
@@ -97,10 +111,10 @@ fn leave(alloc: Global, script: &Script, task: &LoadTask) -> Result<Cleared, Fai
         alloc,
         &script.rules,
         script.policy,
-        task.request,
+        request,
         &task.origin,
         chain,
-        task.mode,
+        mode,
         &resource.head,
     )?;
     judge.feed(resource.body.as_slice());
@@ -111,32 +125,59 @@ fn leave(alloc: Global, script: &Script, task: &LoadTask) -> Result<Cleared, Fai
     }
 }
 
-/// A piece with these bytes.
-fn part(
+/// A head with such a leave.
+fn head(
     alloc: Global,
     script: &Script,
     task: &LoadTask,
+    request: u32,
+    mode: Mode,
+) -> Result<Step, Fail> {
+    Ok(Step::Head(leave(alloc, script, task, request, mode)?))
+}
+
+/// A piece with these bytes, with the leave of the request with this number.
+fn piece(
+    alloc: Global,
+    script: &Script,
+    task: &LoadTask,
+    request: u32,
     index: u32,
     text: &str,
-) -> Result<Part, Fail> {
+) -> Result<Step, Fail> {
     let mut bytes = Vec::new(alloc);
     bytes.extend_from_slice(text.as_bytes())?;
     if bytes.is_empty() {
         return Err(Fail::new("a piece has bytes"));
     }
-    let cleared = leave(alloc, script, task)?;
-    Ok(Part::new(index, PieceBytes::new(bytes), cleared))
+    let cleared = leave(alloc, script, task, request, task.mode)?;
+    Ok(Step::Piece(Part::new(
+        index,
+        PieceBytes::new(bytes),
+        cleared,
+    )))
 }
 
 fn step_of(alloc: Global, script: &Script, task: &LoadTask, came: Came) -> Result<Step, Fail> {
     match came {
-        Came::Head => Ok(Step::Head(leave(alloc, script, task)?)),
-        Came::Piece(index, text) => Ok(Step::Piece(part(alloc, script, task, index, text)?)),
+        Came::Head => head(alloc, script, task, task.request, task.mode),
+        Came::HeadAs(mode) => head(alloc, script, task, task.request, mode),
+        Came::HeadFor(request) => head(alloc, script, task, request, task.mode),
+        Came::Piece(index, text) => piece(alloc, script, task, task.request, index, text),
+        Came::PieceFor(request, text) => piece(alloc, script, task, request, 0, text),
         Came::Whole => Ok(Step::Whole),
         Came::Blocked(rule) => Ok(Step::Blocked(rule)),
         Came::Fault => Ok(Step::Fault),
         Came::Gone => Ok(Step::Gone),
-        Came::Held | Came::Done => Ok(Step::Held),
+        Came::Held | Came::Done | Came::ActionOf(_) => Ok(Step::Held),
+    }
+}
+
+/// The number of the action whose act is brought back of a task.
+fn told_action(task: &ActTask, came: Came) -> u64 {
+    match came {
+        Came::ActionOf(number) => number,
+        _ => u64::from(task.action),
     }
 }
 
@@ -145,7 +186,7 @@ fn outcome_of(alloc: Global, script: &Script, task: &Task, came: Came) -> Result
     match task {
         Task::Browser(job) => Ok(Outcome::Browser(*job)),
         Task::Act(task) => {
-            let act = message_of(alloc, script, &task.sight, u64::from(task.action))?;
+            let act = message_of(alloc, script, &task.sight, told_action(task, came))?;
             Ok(Outcome::Act(ActDone {
                 document: task.sight.document,
                 action: task.action,
