@@ -10,6 +10,7 @@ pub mod documents;
 pub mod entries;
 pub mod frames;
 pub mod inboxes;
+pub mod messages;
 pub mod navigations;
 mod ordered;
 pub mod orders;

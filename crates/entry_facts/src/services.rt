@@ -2,19 +2,12 @@
 
 ghost use Rattle.std.specs.Prelude.{◌≡◌};
 ghost use Rattle.std.specs.Option.{option_map};
-ghost use Rattle.page_origin.specs.Origins.{equal_tuples};
 ghost use Rattle.history_rules.specs.Services as services;
 ghost use Rattle.entry_facts.specs.Views.{asked_view};
 
 use crate::asking::Asking;
+use page_origin::equal_tuples;
 use script_model::{Body, Entry, Origin, Reply, TupleOrigin};
-
-/// Whether two tuple origins are equal.
-fn equal_tuples(a: &TupleOrigin, b: &TupleOrigin) -> bool
-    ensures { result ≡ equal_tuples a.now b.now }
-{
-    a == b
-}
 
 /// Whether the origin is this tuple.
 pub fn is_origin(origin: &Origin, tuple: &TupleOrigin) -> bool

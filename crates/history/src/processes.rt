@@ -59,7 +59,8 @@ pub fn warm_next(facts: &PlainFacts<'_>) -> Result<Option<Entry>, NoMemory>
     }
 }
 
-fn is_crash(act: &Act) -> bool
+/// Whether an act is `crash`.
+pub fn is_crash(act: &Act) -> bool
     ensures { result ≡ following.is_crash act.now }
 {
     matches!(act, Act::Crash)

@@ -53,9 +53,9 @@ use Rattle.script_model.specs.Pieces.{has_ended}
 use Rattle.history_rules.specs.Redirects.{hop_url, is_redirect, is_spent, response}
 use Rattle.history_rules.specs.Requests.{cors_fails, request_chain, request_verdict, requests_made}
 use Rattle.history_rules.specs.Services.{accepted_requests}
-use Rattle.service_rule.specs.Services.{ServiceRule}
+use Rattle.service_rule.specs.Services.{ServiceRule, is_service_rule}
 use Rattle.history_steps.specs.Deliveries.{body_end, end_how, redirect_end, wire_end}
-use Rattle.history_laws.specs.PolicyLaw.{RefusesByServiceRules, is_rule_of, is_service_rule}
+use Rattle.history_laws.specs.PolicyLaw.{RefusesByServiceRules, is_rule_of}
 
 -- a rule of the first policy, or none
 abbrev pub fine : Option Rule → Bool

@@ -23,13 +23,13 @@ use Rattle.history_rules.specs.Navigations.{chain_of, is_pending}
 use Rattle.script_model.specs.Pieces.{has_ended, seen_body}
 use Rattle.history_rules.specs.Redirects.{has_no_content, is_redirect, is_spent, is_web, joined_url, response}
 use Rattle.history_rules.specs.Requests.{is_read_chain, request_chain, request_mode, request_origin, request_verdict, response_verdict}
-use Rattle.service_rule.specs.Services.{ServiceRule}
+use Rattle.service_rule.specs.Services.{ServiceRule, is_service_rule}
 use Rattle.service_rule.specs.Store.{GetKey, RemoveKey, SetKey, StoreRequest, answer_request, answer_text, key_count, store_request, store_rule, value_of}
 use Rattle.service_rule.specs.declared.limits.TheConstants.{MAX_STORE_KEYS}
 use Rattle.history_steps.proofs.Rows.{commit_row, end_row, head_row, said_row}
 use Rattle.history_steps.specs.MayFollow.{MayFollow, chosen_order, does_commit, end_navigation_next, end_rule as navigation_rule, next_of, redirect_rule, response_rule}
 use Rattle.history_laws.proofs.FineRules.{commit_fine, end_how_fine, fine, fine_how, fine_if, fine_reply, fine_verdict, first_verdict_fine, judge_fine}
-use Rattle.history_laws.specs.PolicyLaw.{RefusesByServiceRules, RulesAreOfThePolicy, carries_rule_of, is_rule_of, is_service_rule}
+use Rattle.history_laws.specs.PolicyLaw.{RefusesByServiceRules, RulesAreOfThePolicy, carries_rule_of, is_rule_of}
 
 -- what holds at each place holds of all
 all_placed : {X : Type 0} (p : X → Bool) (xs : List X) → ((i : ℕ) (x : X) → slice_get xs i ≡ Some x → p x ≡ true) → list_all p xs ≡ true

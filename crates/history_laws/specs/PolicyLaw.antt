@@ -7,11 +7,11 @@ use Rattle.history_entry.specs.declared.entry.Entry.{Entry}
 use Rattle.history_entry.specs.declared.policy.Policy.{Policy}
 use Rattle.history_entry.specs.declared.policy.Policy.TheVariants.{One, Two}
 use Rattle.history_entry.specs.declared.rule.Rule.{Rule}
-use Rattle.history_entry.specs.declared.rule.Rule.TheVariants.{B8, S1, S2, S3, S4}
+use Rattle.history_entry.specs.declared.rule.Rule.TheVariants.{B8}
 use Rattle.script_model.specs.ScriptData.{ScriptData}
 use Rattle.service_rule.specs.declared.service.Asked.{Asked}
 use Rattle.service_rule.specs.declared.service.ServiceAnswer.TheVariants.{Refused}
-use Rattle.service_rule.specs.Services.{ServiceRule}
+use Rattle.service_rule.specs.Services.{ServiceRule, is_service_rule}
 use Rattle.history_steps.specs.Run.{Legal}
 
 -- the rule is one of the policy
@@ -23,14 +23,6 @@ is_rule_of One rule = true
 -- the rule that an entry carries, if it does, is one of the policy
 abbrev pub carries_rule_of : Policy → Entry → Bool
 carries_rule_of policy e = option_map_or (is_rule_of policy) (carried_rule e) true
-
--- the rules of services
-abbrev pub is_service_rule : Rule → Bool
-is_service_rule S1 = true
-is_service_rule S2 = true
-is_service_rule S3 = true
-is_service_rule S4 = true
-is_service_rule rule = false
 
 -- the services refuse by rules of services
 abbrev pub RefusesByServiceRules : ServiceRule → Type 0

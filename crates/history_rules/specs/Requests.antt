@@ -20,7 +20,7 @@ use Rattle.script_model.specs.ResourceData.{ResourceData}
 use Rattle.script_model.specs.ScriptData.{ScriptData}
 use Rattle.script_model.specs.Verdicts.{is_cors, is_failed, verdict}
 use Rattle.script_model.specs.declared.verdict.Verdict.{Verdict}
-use Rattle.history_rules.specs.Documents.{is_current, origin_of}
+use Rattle.history_rules.specs.Documents.{is_current, origin_of, process_of}
 use Rattle.history_rules.specs.Entries.{accepted, last_match, makes_request}
 use Rattle.history_rules.specs.Navigations.{url_of_text}
 use Rattle.script_model.specs.Pieces.{has_ended, seen_body}
@@ -51,6 +51,10 @@ fetched_mode _ = NoCors
 -- the document of a request
 abbrev pub request_document : List Entry → ℕ → Option ℕ
 request_document h r = option_map (λ m. m.document) (request_maker h r)
+
+-- the process of its document
+abbrev pub request_process : List Entry → ℕ → Option ℕ
+request_process h r = option_and_then (process_of h) (request_document h r)
 
 -- the origin of its document
 unfoldable pub request_origin : List Entry → ℕ → Option Origin

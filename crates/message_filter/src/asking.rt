@@ -9,21 +9,11 @@ ghost use Rattle.message_filter.specs.Asking.{HaveRoom, KeepAccepted, gained_by}
 
 use crate::facts::Facts;
 use crate::rows::lock_admits;
+use entry_facts::messages::reply_of_answer;
 use history_entry::{Body, Reply, RequestText, Rule, ServiceName};
 use origin_service::Service;
 use page_origin::{NoMemory, Origin, TupleOrigin};
-use service_rule::ServiceAnswer;
 use std::alloc::Global;
-
-// The reply by a service's answer.
-fn reply_of_answer(answer: ServiceAnswer) -> Reply
-    ensures { result ≡ judgement.reply_of_answer answer }
-{
-    match answer {
-        ServiceAnswer::Said(text) => Reply::Answer(text),
-        ServiceAnswer::Refused(rule) => Reply::Deny(rule),
-    }
-}
 
 // The current documents by rising number.
 fn current_documents<F: Facts>(alloc: Global, facts: &F) -> Result<Vec<u32>, NoMemory>

@@ -8,15 +8,9 @@ ghost use Rattle.history_rules.specs.Navigations as navigations;
 ghost use Rattle.history_rules.specs.Orders as orders;
 
 use crate::facts::Facts;
+use entry_facts::messages::is_equal;
 use history_entry::{RawUrl, Reply, Rule};
 use page_origin::Origin;
-
-// Whether two origins are equal as whole values.
-fn is_equal(a: &Origin, b: &Origin) -> bool
-    ensures { result ≡ equal_origins a.now b.now }
-{
-    a == b
-}
 
 // The reply to a commit by the URL and the origin of its order: both are compared as whole values.
 fn compare(url: &RawUrl, origin: &Origin, order_url: &str, order_origin: &Origin) -> Reply

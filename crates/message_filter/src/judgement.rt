@@ -12,9 +12,10 @@ use crate::asking::judge_ask;
 use crate::commit::judge_commit;
 use crate::facts::Facts;
 use crate::rows::{
-    are_frames_full, in_group, is_child, is_own_origin, is_web_text, lock_admits, own_frame,
-    receiver_in, src_rows, url_rows,
+    are_frames_full, in_group, is_child, is_own_origin, lock_admits, own_frame, receiver_in,
+    src_rows, url_rows,
 };
+use entry_facts::messages::{is_did_commit, is_web_text};
 use history_entry::{Body, Message, RawUrl, Reply, Rule, Src, Target};
 use origin_service::Service;
 use page_origin::{NoMemory, Origin, same_origin};
@@ -222,13 +223,6 @@ fn judge_body<F: Facts, V: Service>(
         ),
         Body::DidCommit { nav, url, origin } => Ok(judge_commit(facts, process, *nav, url, origin)),
     }
-}
-
-// Whether a message tells a commit.
-fn is_did_commit(body: &Body) -> bool
-    ensures { result ≡ judgement.is_did_commit body.now }
-{
-    matches!(body, Body::DidCommit { .. })
 }
 
 /// The reply to a message of a process: the process is killed where the document was never one of it, and the message is

@@ -1,8 +1,8 @@
 //! What the browser answers to a message of a process, over any facts of a history.
 //!
-//! A message may be forged in every part, so nothing that it says is believed. [`judge`] asks [`Facts`], which a browser
-//! keeps as indexes, and a [`Service`](origin_service::Service) that answers requests. Its reply is exactly that of the
-//! table in `history_rules`, after Chromium's `ChildProcessSecurityPolicy`: the first row that holds decides.
+//! A message may be forged in every part, so nothing that it says is believed. [`judge`] asks [`Facts`], which a browser may
+//! keep as indexes, and a [`Service`] that answers requests. Its reply is exactly that of the table in `history_rules`, after
+//! Chromium's `ChildProcessSecurityPolicy`: the first row that holds decides.
 #![tactic(auto)]
 
 mod asking;
@@ -13,6 +13,7 @@ mod rows;
 
 pub use facts::Facts;
 pub use judgement::judge;
+pub use origin_service::Service;
 
 #[cfg(test)]
 mod tests;

@@ -1,52 +1,18 @@
 //! The rows that several messages share, and what they ask of a document and of frames.
 
 ghost use Rattle.std.specs.Prelude.{◌≡◌, IfOk, IfSome, IsTrue, nat_le};
-ghost use Rattle.std.specs.Option.{option_map};
-ghost use Rattle.std.specs.Result.{result_ok};
-ghost use Rattle.page_origin.specs.Origins.{equal_sites};
-ghost use Rattle.page_origin.specs.PageUrls.{class_of, page_url_of};
 ghost use Rattle.script_model.specs.declared.limits.TheConstants.{MAX_FRAMES};
 ghost use Rattle.history_rules.specs.Documents as documents;
 ghost use Rattle.history_rules.specs.Frames as frames;
 ghost use Rattle.history_rules.specs.Judgement as judgement;
 
 use crate::facts::Facts;
+use entry_facts::messages::{class_in, is_same_site, may_load};
 use history_entry::{RawUrl, Reply, Rule, Src};
-use page_origin::{NoMemory, Origin, Site, UrlClass, UrlRefusal, page_url, same_origin};
+use page_origin::{NoMemory, Origin, same_origin};
 use script_model::limits::{MAX_FRAMES, MAX_NAVIGATIONS};
 use site_url::site_of_origin;
 use std::alloc::Global;
-
-// Whether a frame or a page may be navigated to URLs of a class.
-fn may_load(class: UrlClass) -> bool
-    ensures { result ≡ judgement.may_load class }
-{
-    match class {
-        UrlClass::Web | UrlClass::AboutBlank | UrlClass::DataUrl => true,
-        UrlClass::AboutSrcdoc | UrlClass::Foreign => false,
-    }
-}
-
-// The class of the URL that a text names, if it names one.
-fn class_in(alloc: Global, text: &RawUrl) -> Result<Option<UrlClass>, NoMemory>
-    ensures { IfOk result (λ class. class ≡ option_map class_of (result_ok (page_url_of text.now))) }
-{
-    match page_url(alloc, text.as_str()) {
-        Ok(url) => Ok(Some(url.class())),
-        Err(UrlRefusal::NoMemory) => Err(NoMemory),
-        Err(_) => Ok(None),
-    }
-}
-
-/// Whether a text names a URL of class [`UrlClass::Web`].
-pub(crate) fn is_web_text(alloc: Global, text: &RawUrl) -> Result<bool, NoMemory>
-    ensures { IfOk result (λ web. web ≡ judgement.is_web_text text.now) }
-{
-    match class_in(alloc, text)? {
-        Some(class) => Ok(class == UrlClass::Web),
-        None => Ok(false),
-    }
-}
 
 // The row on the count of navigations.
 fn count_row<F: Facts>(facts: &F) -> Reply
@@ -90,13 +56,6 @@ pub(crate) fn are_frames_full<F: Facts>(facts: &F) -> bool
     ensures { result ≡ nat_le MAX_FRAMES (frames.frames_made (F.script facts.now) (F.entries facts.now)) }
 {
     MAX_FRAMES <= facts.frames_made()
-}
-
-// Whether two sites are equal.
-fn is_same_site(a: &Site, b: &Site) -> bool
-    ensures { result ≡ equal_sites a.now b.now }
-{
-    a == b
 }
 
 /// Whether a process is locked to the site of an origin.

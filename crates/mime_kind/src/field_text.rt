@@ -88,6 +88,7 @@ impl FieldText {
         }
     }
 
+    /// The text, which is that of a header field.
     pub fn as_str(&self) -> &str
         ensures text { result.now ≡ self.now }
         ensures field { is_field_text self.now ≡ true }
@@ -95,6 +96,7 @@ impl FieldText {
         self.text.as_str()
     }
 
+    /// The bytes of the text, which is that of a header field.
     pub fn as_bytes(&self) -> &[u8]
         ensures text { result.now ≡ self.now }
         ensures field { is_field_text self.now ≡ true }

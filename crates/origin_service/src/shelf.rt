@@ -1,6 +1,6 @@
 //! The requests of one origin to the store.
 
-ghost use Rattle.std.specs.Prelude.{◌≡◌, ◌≤◌, ◌+◌, ◌++◌, ◌∷◌, [], IfOk, List, OnErr, OnOk, Some, codes, string_bytes, vec_len};
+ghost use Rattle.std.specs.Prelude.{◌≡◌, ◌≤◌, ◌+◌, ◌++◌, ◌∷◌, [], IfOk, List, Ok, OnErr, OnOk, Some, string_bytes, true, vec_len};
 ghost use Rattle.std.specs.BTreeMap.{IsUnchanged, get_by_text};
 ghost use Rattle.std.specs.Option.{option_copied, option_map};
 ghost use Rattle.std.specs.Vec.{vec_capacity};
@@ -44,20 +44,6 @@ fn value_in<'a>(keys: &'a BTreeMap<String, String>, key: &str) -> Option<&'a str
         Some(value) => Some(value.as_str()),
         None => None,
     }
-}
-
-fn said(alloc: Global, text: &str) -> Result<ServiceAnswer, NoMemory>
-    ensures { IfOk result (λ answer. answer ≡ ServiceAnswer.Said text.now) }
-{
-    Ok(ServiceAnswer::Said(RequestText::of(alloc, text)?))
-}
-
-fn found(alloc: Global, value: &str) -> Result<ServiceAnswer, NoMemory>
-    ensures { IfOk result (λ answer. answer ≡ ServiceAnswer.Said (codes "some " ++ value.now)) }
-{
-    let mut text = String::from_str(alloc, "some ")?;
-    text.push_str(value)?;
-    Ok(ServiceAnswer::Said(RequestText::new(text)))
 }
 
 // Sets a key.
@@ -112,6 +98,8 @@ fn push_within(kept: &mut Vec<Asked>, asked: Asked)
 
 impl Shelf {
     ghost use Rattle.page_origin.specs.Origins.{equal_tuples};
+    ghost use Rattle.history_entry.specs.declared.rule.Rule.{Rule};
+    ghost use Rattle.service_rule.specs.Services.{is_service_rule};
     ghost use Rattle.origin_service.specs.Kept.{accepted};
 
     /// The shelf of an origin that was answered nothing yet.
@@ -135,23 +123,24 @@ impl Shelf {
     // The answer to a request.
     #[tactic(auto, unfolding(service_rule::specs::Store::answer_request))]
     fn answer(&self, alloc: Global, request: KeyRequest<'_>) -> Result<ServiceAnswer, NoMemory>
-        ensures { IfOk result (λ answer. answer ≡ store.answer_request (store_requests self.now.kept) (key_request request.entry)) }
+        ensures answer { IfOk result (λ answer. answer ≡ store.answer_request (store_requests self.now.kept) (key_request request.entry)) }
+        ensures refused { (why : Rule) → result ≡ Ok (ServiceAnswer.Refused why) → is_service_rule why ≡ true }
     {
         match request {
             KeyRequest::Get(key) => match value_in(&self.keys, key) {
-                Some(value) => found(alloc, value),
-                None => said(alloc, "none"),
+                Some(value) => ServiceAnswer::found(alloc, value),
+                None => ServiceAnswer::said(alloc, "none"),
             },
             KeyRequest::Set(key, _) => {
                 if value_in(&self.keys, key).is_none() && self.keys.len() >= MAX_STORE_KEYS {
                     Ok(ServiceAnswer::Refused(Rule::S2))
                 } else {
-                    said(alloc, "done")
+                    ServiceAnswer::said(alloc, "done")
                 }
             }
             KeyRequest::Remove(key) => match value_in(&self.keys, key) {
-                Some(_) => said(alloc, "done"),
-                None => said(alloc, "none"),
+                Some(_) => ServiceAnswer::said(alloc, "done"),
+                None => ServiceAnswer::said(alloc, "none"),
             },
         }
     }
@@ -191,6 +180,7 @@ impl Shelf {
     ) -> Result<ServiceAnswer, NoMemory>
         requires { store.store_request text.now ≡ Some (key_request request) }
         ensures answer { IfOk result (λ answer. answer ≡ store.answer_request (store_requests self.old.kept) (key_request request.entry)) }
+        ensures refused { (why : Rule) → result ≡ Ok (ServiceAnswer.Refused why) → is_service_rule why ≡ true }
         ensures kept { self.new ≡ record self.old { kept = self.old.kept ++ accepted result document text.now } }
     {
         let answer = self.answer(alloc, request)?;

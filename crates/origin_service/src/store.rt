@@ -1,10 +1,12 @@
 //! The service `store`.
 
-ghost use Rattle.std.specs.Prelude.{◌≡◌, ◌<◌, ◌-◌, ◌^◌, ◌++◌, [], IfOk, List, None, Some, if◌then◌else◌, length, ℕ};
+ghost use Rattle.std.specs.Prelude.{◌≡◌, ◌<◌, ◌-◌, ◌^◌, ◌++◌, [], IfOk, List, None, Ok, Some, if◌then◌else◌, length, true, ℕ};
 ghost use Rattle.std.specs.List.{position};
 ghost use Rattle.page_origin.specs.Origins.{equal_tuples};
 ghost use Rattle.page_origin.specs.declared.origin.TupleOrigin.{TupleOrigin};
+ghost use Rattle.history_entry.specs.declared.rule.Rule.{Rule};
 ghost use Rattle.service_rule.specs.KeyRequests.{key_request, store_requests};
+ghost use Rattle.service_rule.specs.Services.{is_service_rule};
 ghost use Rattle.service_rule.specs.Store as store;
 ghost use Rattle.origin_service.specs.Kept.{accepted};
 ghost use Rattle.origin_service.specs.Shelves.{kept_by, kept_of};
@@ -86,6 +88,7 @@ fn ask_at(
     requires place { position (λ shelf. equal_tuples origin.now shelf.origin) shelves.old ≡ Some place }
     requires request { store.store_request text.now ≡ Some (key_request request) }
     ensures answer { IfOk result (λ answer. answer ≡ store.answer_request (store_requests (kept_of shelves.old origin.now)) (key_request request.entry)) }
+    ensures refused { (why : Rule) → result ≡ Ok (ServiceAnswer.Refused why) → is_service_rule why ≡ true }
     ensures kept { (tuple : TupleOrigin) → kept_of shelves.new tuple ≡ kept_of shelves.old tuple ++ (if equal_tuples tuple origin.now then accepted result document text.now else []) }
 {
     let shelf = &mut shelves[place];
@@ -103,6 +106,7 @@ fn ask_shelves(
 ) -> Result<ServiceAnswer, NoMemory>
     requires { store.store_request text.now ≡ Some (key_request request) }
     ensures answer { IfOk result (λ answer. answer ≡ store.answer_request (store_requests (kept_of shelves.old.items origin.now)) (key_request request.entry)) }
+    ensures refused { (why : Rule) → result ≡ Ok (ServiceAnswer.Refused why) → is_service_rule why ≡ true }
     ensures kept { (tuple : TupleOrigin) → kept_of shelves.new.items tuple ≡ kept_of shelves.old.items tuple ++ (if equal_tuples tuple origin.now then accepted result document text.now else []) }
 {
     let place = make_place(alloc, shelves, origin)?;
@@ -129,6 +133,7 @@ impl Store {
         text: &str,
     ) -> Result<ServiceAnswer, NoMemory>
         ensures answer { IfOk result (λ answer. answer ≡ store.answer_text (store_requests (kept_of self.old origin.now)) text.now) }
+        ensures refused { (why : Rule) → result ≡ Ok (ServiceAnswer.Refused why) → is_service_rule why ≡ true }
         ensures kept { (tuple : TupleOrigin) → kept_of self.new tuple ≡ kept_of self.old tuple ++ (if equal_tuples tuple origin.now then accepted result document text.now else []) }
     {
         match store_request(text) {

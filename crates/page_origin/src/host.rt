@@ -45,6 +45,7 @@ impl HostText {
         Ok(HostText::new(text_copy(alloc, text)?))
     }
 
+    /// The text of the host.
     pub fn as_str(&self) -> &str
         ensures text { result.now ≡ self.now }
         ensures host { is_host self.now ≡ true }
@@ -52,6 +53,7 @@ impl HostText {
         self.text.as_str()
     }
 
+    /// An equal host, in memory of its own.
     pub fn copy(&self, alloc: Global) -> Result<Self, NoMemory>
         ensures { IfOk result (λ copy. copy ≡ self.now) }
     {

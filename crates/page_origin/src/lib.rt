@@ -21,7 +21,7 @@ pub use any_text::{class_of_text, join_text, key_of_text, tuple_of_text};
 pub use call_answers::NoMemory;
 pub use class::UrlClass;
 pub use host::HostText;
-pub use origin::{OpaqueOrigin, Origin, TupleOrigin, equal_origins, same_origin};
+pub use origin::{OpaqueOrigin, Origin, TupleOrigin, equal_origins, equal_tuples, same_origin};
 pub use origin_spelling::{OriginText, origin_text};
 pub use page::{PageUrl, UrlRefusal, join_url, page_url};
 pub use site::{Scheme, Site, equal_sites};

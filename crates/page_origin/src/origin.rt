@@ -1,5 +1,5 @@
 ghost use Rattle.std.specs.Prelude.{◌≡◌, ◌↔◌, IfOk, IsTrue};
-ghost use Rattle.page_origin.specs.Origins.{same_origin};
+ghost use Rattle.page_origin.specs.Origins.{equal_tuples, same_origin};
 
 use crate::host::HostText;
 use crate::site::{Scheme, Site};
@@ -30,6 +30,7 @@ pub enum Origin {
 }
 
 impl TupleOrigin {
+    /// An equal tuple origin, in memory of its own.
     pub fn copy(&self, alloc: Global) -> Result<Self, NoMemory>
         ensures { IfOk result (λ copy. copy ≡ self.now) }
     {
@@ -42,6 +43,7 @@ impl TupleOrigin {
 }
 
 impl OpaqueOrigin {
+    /// An equal opaque origin, in memory of its own.
     pub fn copy(&self, alloc: Global) -> Result<Self, NoMemory>
         ensures { IfOk result (λ copy. copy ≡ self.now) }
     {
@@ -53,6 +55,7 @@ impl OpaqueOrigin {
 }
 
 impl Origin {
+    /// An equal origin, in memory of its own.
     pub fn copy(&self, alloc: Global) -> Result<Self, NoMemory>
         ensures { IfOk result (λ copy. copy ≡ self.now) }
     {
@@ -61,6 +64,13 @@ impl Origin {
             Origin::Opaque(opaque) => Ok(Origin::Opaque(opaque.copy(alloc)?)),
         }
     }
+}
+
+/// Whether two tuple origins are equal. This takes no memory.
+pub fn equal_tuples(a: &TupleOrigin, b: &TupleOrigin) -> bool
+    ensures { result ≡ equal_tuples a.now b.now }
+{
+    a == b
 }
 
 /// Whether two origins are equal as whole values, the precursors too.

@@ -32,6 +32,7 @@ impl OriginText {
         Ok(OriginText { text })
     }
 
+    /// The text, as a header has it.
     pub fn as_str(&self) -> &str
         ensures { result.now ≡ self.now }
     {

@@ -12,6 +12,7 @@ use crate::page::UrlRefusal;
 use crate::site::Scheme;
 use url::{ParseError, Url};
 
+/// The text of a URL.
 #[tactic(auto, unfolding(crate::specs::PageUrls::url_text))]
 pub fn text_of_url(url: &Url) -> &str
     ensures { result.now ≡ url_text url.now }
@@ -30,6 +31,7 @@ pub fn refusal(error: ParseError) -> UrlRefusal
     }
 }
 
+/// What a URL leads to.
 pub fn class_of_url(url: &Url) -> UrlClass
     ensures { result ≡ class_of_parts url.now }
 {
@@ -42,6 +44,7 @@ pub fn class_of_url(url: &Url) -> UrlClass
     }
 }
 
+/// The scheme of a URL of class [`UrlClass::Web`].
 pub fn scheme_of_url(url: &Url) -> Scheme
     ensures { result ≡ scheme_of_parts url.now }
 {

@@ -21,6 +21,7 @@ pub struct Site {
 }
 
 impl Site {
+    /// An equal site, in memory of its own.
     pub fn copy(&self, alloc: Global) -> Result<Self, NoMemory>
         ensures { IfOk result (λ copy. copy ≡ self.now) }
     {

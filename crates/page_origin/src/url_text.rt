@@ -54,6 +54,7 @@ impl UrlText {
         Ok(UrlText { text })
     }
 
+    /// The text of the URL, one or more bytes from space to tilde.
     pub fn as_str(&self) -> &str
         ensures text { result.now ≡ self.now }
         ensures spelling { is_url_spelling self.now ≡ true }
@@ -61,6 +62,7 @@ impl UrlText {
         self.text.as_str()
     }
 
+    /// An equal text, in memory of its own.
     pub fn copy(&self, alloc: Global) -> Result<Self, NoMemory>
         ensures { IfOk result (λ copy. copy ≡ self.now) }
     {

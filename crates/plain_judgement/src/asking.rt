@@ -6,22 +6,13 @@ ghost use Rattle.history_rules.specs.Judgement as judgement;
 
 use crate::rows::lock_admits;
 use crate::services::accepted_requests;
+use entry_facts::messages::reply_of_answer;
 use history_entry::{Reply, RequestText, Rule, ServiceName};
 use page_origin::{NoMemory, Origin, TupleOrigin};
 use plain_facts::PlainFacts;
 use plain_facts::numbers::entry_number;
-use script_model::{ServiceAnswer, ServiceRule};
+use script_model::ServiceRule;
 use std::alloc::Global;
-
-/// The reply by a service's answer.
-fn reply_of_answer(answer: ServiceAnswer) -> Reply
-    ensures { result ≡ judgement.reply_of_answer answer }
-{
-    match answer {
-        ServiceAnswer::Said(text) => Reply::Answer(text),
-        ServiceAnswer::Refused(rule) => Reply::Deny(rule),
-    }
-}
 
 /// The numbers of the current documents, in order, as entries hold them.
 fn current_numbers(alloc: Global, facts: &PlainFacts<'_>) -> Result<Vec<u32>, NoMemory>

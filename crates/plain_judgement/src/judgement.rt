@@ -1,15 +1,13 @@
 //! The reply to a message: the first row that holds decides.
 
 ghost use Rattle.std.specs.Prelude.{◌≡◌, IfOk};
-ghost use Rattle.page_origin.specs.Origins.{equal_origins};
 ghost use Rattle.entry_facts.specs.Orders.{order_view};
 ghost use Rattle.history_rules.specs.Judgement as judgement;
 
 use crate::asking::judge_ask;
-use crate::rows::{
-    are_frames_full, in_group, is_own_origin, is_web_text, lock_admits, src_rows, url_rows,
-};
+use crate::rows::{are_frames_full, in_group, is_own_origin, lock_admits, src_rows, url_rows};
 use entry_facts::Ordered;
+use entry_facts::messages::{is_did_commit, is_equal, is_web_text};
 use history_entry::{Body, Message, RawUrl, Reply, Rule, Src, Target};
 use page_origin::{NoMemory, Origin, same_origin};
 use plain_facts::PlainFacts;
@@ -165,13 +163,6 @@ fn judge_post(
     }
 }
 
-/// Whether two origins are equal as whole values.
-fn is_equal(a: &Origin, b: &Origin) -> bool
-    ensures { result ≡ equal_origins a.now b.now }
-{
-    a == b
-}
-
 /// The reply to a commit by its order: both are compared as whole values.
 fn compare_order(url: &RawUrl, origin: &Origin, order: Ordered<'_>) -> Reply
     ensures { result ≡ judgement.compare_order url.now origin.now (order_view order.entry) }
@@ -251,13 +242,6 @@ fn judge_body<R: ServiceRule>(
             Ok(judge_commit(facts, process, u64::from(*nav), url, origin))
         }
     }
-}
-
-/// Whether a message tells a commit.
-fn is_did_commit(body: &Body) -> bool
-    ensures { result ≡ judgement.is_did_commit body.now }
-{
-    matches!(body, Body::DidCommit { .. })
 }
 
 /// The reply to a message of a process: the process is killed where the document was never one of it, and the message is

@@ -8,3 +8,4 @@
 mod actions;
 
 pub use actions::message_of;
+pub use history_rules::{Act, FrameList, Sight};

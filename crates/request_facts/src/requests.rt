@@ -9,7 +9,7 @@ use crate::navigations::url_of_text;
 use entry_facts::entries::{accepted, makes_request};
 use entry_facts::requests::{fetched_mode, head_in, hop_of_request, is_end_of, is_piece_of};
 use plain_facts::PlainFacts;
-use plain_facts::documents::origin_of;
+use plain_facts::documents::{origin_of, process_of};
 use plain_facts::requests::requests_made;
 use script_model::{Body, Entry, Message, Mode, NoMemory, Origin, Rule, UrlText};
 use std::alloc::Global;
@@ -37,6 +37,16 @@ pub fn request_document(entries: &[Entry], request: u64) -> Option<u64>
 {
     match request_maker(entries, request) {
         Some(maker) => Some(u64::from(maker.document)),
+        None => None,
+    }
+}
+
+/// The process that hosts the document of a request.
+pub fn request_process(entries: &[Entry], request: u64) -> Option<u64>
+    ensures { result ≡ requests.request_process entries.now request }
+{
+    match request_document(entries, request) {
+        Some(document) => process_of(entries, document),
         None => None,
     }
 }

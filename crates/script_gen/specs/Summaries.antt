@@ -2,16 +2,10 @@
 use Rattle.std.specs.Prelude.{◌==◌, ◌++◌, ◌∷◌, [], Bool, List, bytes_eq, codes, count_by, decimal, false, flat_map, if◌then◌else◌, length, sum_by, ℕ}
 use Rattle.std.specs.Option.{option_map_or}
 use Rattle.history_entry.specs.CarriedRules.{carried_rule}
-use Rattle.history_entry.specs.RuleText.{rule_text}
+use Rattle.history_entry.specs.RuleText.{all_rules, rule_text}
 use Rattle.history_entry.specs.declared.entry.Entry.{Entry}
 use Rattle.history_entry.specs.declared.entry.Entry.TheVariants.{Piece}
 use Rattle.history_entry.specs.declared.rule.Rule.{Rule}
-use Rattle.history_entry.specs.declared.rule.Rule.TheVariants.{K1, K2, K3, K4, K5, K6, K7, K8, K9, K10, G1, G2, G3, M1, M2, N1, N2, N3, N4, N5, N6, N7, N8, N9, F1, L1, L2, S1, S2, S3, S4, A1, A2, A3, A4, A5, B1, B2, B3, B4, B5, B6, B7, B8}
-
--- all rules, in the order of the lines
-abbrev pub rules : List Rule
-rules = K1 ∷ K2 ∷ K3 ∷ K4 ∷ K5 ∷ K6 ∷ K7 ∷ K8 ∷ K9 ∷ K10 ∷ G1 ∷ G2 ∷ G3 ∷ M1 ∷ M2 ∷ N1 ∷ N2 ∷ N3 ∷ N4 ∷ N5 ∷ N6 ∷ N7 ∷ N8 ∷ N9
-    ∷ F1 ∷ L1 ∷ L2 ∷ S1 ∷ S2 ∷ S3 ∷ S4 ∷ A1 ∷ A2 ∷ A3 ∷ A4 ∷ A5 ∷ B1 ∷ B2 ∷ B3 ∷ B4 ∷ B5 ∷ B6 ∷ B7 ∷ B8 ∷ []
 
 -- a line: a word and a number
 unfoldable pub line : List ℕ → ℕ → List ℕ
@@ -33,4 +27,4 @@ rule_line h rule = if count_by (carries rule) h == 0 then [] else line (rule_tex
 -- the summary of a history
 unfoldable pub summary_text : List Entry → List ℕ
 summary_text h = line (codes "entries") (length h) ++ line (codes "delivered") (sum_by delivered_by h)
-    ++ flat_map (rule_line h) rules
+    ++ flat_map (rule_line h) all_rules

@@ -7,54 +7,6 @@ use history_entries::{Entry, History, Rule};
 use script_model::NoMemory;
 use std::alloc::Global;
 
-/// All rules, in the order of their lines.
-const RULES: [Rule; 44] = [
-    Rule::K1,
-    Rule::K2,
-    Rule::K3,
-    Rule::K4,
-    Rule::K5,
-    Rule::K6,
-    Rule::K7,
-    Rule::K8,
-    Rule::K9,
-    Rule::K10,
-    Rule::G1,
-    Rule::G2,
-    Rule::G3,
-    Rule::M1,
-    Rule::M2,
-    Rule::N1,
-    Rule::N2,
-    Rule::N3,
-    Rule::N4,
-    Rule::N5,
-    Rule::N6,
-    Rule::N7,
-    Rule::N8,
-    Rule::N9,
-    Rule::F1,
-    Rule::L1,
-    Rule::L2,
-    Rule::S1,
-    Rule::S2,
-    Rule::S3,
-    Rule::S4,
-    Rule::A1,
-    Rule::A2,
-    Rule::A3,
-    Rule::A4,
-    Rule::A5,
-    Rule::B1,
-    Rule::B2,
-    Rule::B3,
-    Rule::B4,
-    Rule::B5,
-    Rule::B6,
-    Rule::B7,
-    Rule::B8,
-];
-
 /// Adds the line of a word and a number.
 #[tactic(auto, unfolding(crate::specs::Summaries::line))]
 fn put_line(alloc: Global, out: &mut Vec<u8>, word: &str, number: usize) -> Result<(), NoMemory>
@@ -141,6 +93,6 @@ pub fn summary_of(alloc: Global, history: &History) -> Result<Vec<u8>, NoMemory>
     let mut out = Vec::new(alloc);
     put_line(alloc, &mut out, "entries", entries.len())?;
     put_line(alloc, &mut out, "delivered", delivered(entries)?)?;
-    put_rules(alloc, &mut out, entries, &RULES)?;
+    put_rules(alloc, &mut out, entries, &Rule::ALL)?;
     Ok(out)
 }

@@ -19,18 +19,21 @@ impl Model for PageUrls {
 }
 
 impl PageUrls {
+    /// The list of these URLs.
     pub fn from_vec(urls: Vec<PageUrl>) -> Self
         ensures { result ≡ urls.items }
     {
         PageUrls { urls }
     }
 
+    /// The URLs, in order.
     pub fn as_slice(&self) -> &[PageUrl]
         ensures { result.now ≡ self.now }
     {
         self.urls.as_slice()
     }
 
+    /// The URL with this number, counted from 0.
     pub fn get(&self, index: usize) -> Option<&PageUrl>
         ensures { option_copied result ≡ slice_get self.now index }
     {

@@ -35,24 +35,28 @@ impl Pieces {
         }
     }
 
+    /// How many pieces there are.
     pub fn len(&self) -> usize
         ensures { result ≡ length self.now }
     {
         self.pieces.len()
     }
 
+    /// Whether there is no piece.
     pub fn is_empty(&self) -> bool
         ensures { result ≡ (length self.now == 0) }
     {
         self.pieces.is_empty()
     }
 
+    /// The piece with this number, counted from 0.
     pub fn get(&self, index: usize) -> Option<&PieceBytes>
         ensures { option_copied result ≡ slice_get self.now index }
     {
         self.pieces.get(index)
     }
 
+    /// The pieces, in order.
     pub fn as_slice(&self) -> &[PieceBytes]
         ensures { result.now ≡ self.now }
     {

@@ -26,12 +26,14 @@ impl Model for Cuts {
 }
 
 impl Cuts {
+    /// The cuts at these places.
     pub fn from_vec(cuts: Vec<u32>) -> Self
         ensures { result ≡ cuts.items }
     {
         Cuts { cuts }
     }
 
+    /// The places, as the script gives them.
     pub fn as_slice(&self) -> &[u32]
         ensures { result.now ≡ self.now }
     {
@@ -55,12 +57,14 @@ impl Model for Actions {
 }
 
 impl Actions {
+    /// The list of these actions.
     pub fn from_vec(actions: Vec<Action>) -> Self
         ensures { result ≡ actions.items }
     {
         Actions { actions }
     }
 
+    /// The actions, in order.
     pub fn as_slice(&self) -> &[Action]
         ensures { result.now ≡ self.now }
     {
@@ -138,12 +142,14 @@ impl Model for Resources {
 }
 
 impl Resources {
+    /// The list of these resources.
     pub fn from_vec(resources: Vec<Resource>) -> Self
         ensures { result ≡ resources.items }
     {
         Resources { resources }
     }
 
+    /// The resources, in order.
     pub fn as_slice(&self) -> &[Resource]
         ensures { result.now ≡ self.now }
     {

@@ -10,9 +10,11 @@ use crate::limits::MAX_STORE_KEY;
 
 /// What a request asks of the store, lent by its text.
 pub enum KeyRequest<'a> {
+    /// To say the value of a key.
     Get(&'a str),
-    /// A key and its value.
+    /// To keep a value under a key, in place of an earlier one.
     Set(&'a str, &'a str),
+    /// To remove a key.
     Remove(&'a str),
 }
 
@@ -103,7 +105,7 @@ pub fn store_request(text: &str) -> Option<KeyRequest<'_>>
 }
 
 /// What a request leaves under a key: a value, nothing, or what was there.
-pub fn leaves<'a>(request: KeyRequest<'a>, key: &str) -> Option<Option<&'a str>>
+pub(crate) fn leaves<'a>(request: KeyRequest<'a>, key: &str) -> Option<Option<&'a str>>
     ensures { option_map option_copied result ≡ store.leaves key.now (key_request request.entry) }
 {
     match request {

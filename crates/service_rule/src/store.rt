@@ -1,14 +1,16 @@
 //! The service `store`: keys with values, kept for each origin by itself.
 
-ghost use Rattle.std.specs.Prelude.{◌≡◌, ◌≤◌, ◌++◌, IfOk, codes, length, option_and_then, false};
+ghost use Rattle.std.specs.Prelude.{◌≡◌, ◌≤◌, IfOk, Ok, length, option_and_then, false, true};
 ghost use Rattle.std.specs.Option.{option_copied, option_map, option_map_or};
+ghost use Rattle.history_entry.specs.declared.rule.Rule.{Rule};
 ghost use Rattle.service_rule.specs.KeyRequests.{key_request, store_requests};
+ghost use Rattle.service_rule.specs.Services.{is_service_rule};
 ghost use Rattle.service_rule.specs.Store as store;
 
 use crate::limits::MAX_STORE_KEYS;
 use crate::request::{KeyRequest, leaves, store_request};
 use crate::service::{Asked, ServiceAnswer, ServiceRule};
-use history_entry::{RequestText, Rule};
+use history_entry::Rule;
 use page_origin::NoMemory;
 use std::alloc::Global;
 
@@ -69,20 +71,6 @@ fn key_count(earlier: &[Asked]) -> usize
     count
 }
 
-fn said(alloc: Global, text: &str) -> Result<ServiceAnswer, NoMemory>
-    ensures { IfOk result (λ answer. answer ≡ ServiceAnswer.Said text.now) }
-{
-    Ok(ServiceAnswer::Said(RequestText::of(alloc, text)?))
-}
-
-fn found(alloc: Global, value: &str) -> Result<ServiceAnswer, NoMemory>
-    ensures { IfOk result (λ answer. answer ≡ ServiceAnswer.Said (codes "some " ++ value.now)) }
-{
-    let mut text = String::from_str(alloc, "some ")?;
-    text.push_str(value)?;
-    Ok(ServiceAnswer::Said(RequestText::new(text)))
-}
-
 /// The answer to a request after these earlier ones.
 #[tactic(auto, unfolding(crate::specs::Store::answer_request))]
 fn answer_request(
@@ -90,23 +78,24 @@ fn answer_request(
     earlier: &[Asked],
     request: KeyRequest<'_>,
 ) -> Result<ServiceAnswer, NoMemory>
-    ensures { IfOk result (λ answer. answer ≡ store.answer_request (store_requests earlier.now) (key_request request.entry)) }
+    ensures answer { IfOk result (λ answer. answer ≡ store.answer_request (store_requests earlier.now) (key_request request.entry)) }
+    ensures refused { (why : Rule) → result ≡ Ok (ServiceAnswer.Refused why) → is_service_rule why ≡ true }
 {
     match request {
         KeyRequest::Get(key) => match value_of(earlier, key) {
-            Some(value) => found(alloc, value),
-            None => said(alloc, "none"),
+            Some(value) => ServiceAnswer::found(alloc, value),
+            None => ServiceAnswer::said(alloc, "none"),
         },
         KeyRequest::Set(key, _) => {
             if value_of(earlier, key).is_none() && key_count(earlier) >= MAX_STORE_KEYS {
                 Ok(ServiceAnswer::Refused(Rule::S2))
             } else {
-                said(alloc, "done")
+                ServiceAnswer::said(alloc, "done")
             }
         }
         KeyRequest::Remove(key) => match value_of(earlier, key) {
-            Some(_) => said(alloc, "done"),
-            None => said(alloc, "none"),
+            Some(_) => ServiceAnswer::said(alloc, "done"),
+            None => ServiceAnswer::said(alloc, "none"),
         },
     }
 }
@@ -126,7 +115,7 @@ impl ServiceRule for PlainStore {
         alloc: Global,
         service: &str,
         earlier: &[Asked],
-        _current: &[u32],
+        _live: &[u32],
         request: &str,
     ) -> Result<ServiceAnswer, NoMemory> {
         if service != "store" {

@@ -1,16 +1,9 @@
 ghost use Rattle.std.specs.Prelude.{◌≡◌};
-ghost use Rattle.page_origin.specs.Origins.{equal_tuples};
 ghost use Rattle.site_url.specs.Sites.{is_isolated};
 
-use page_origin::TupleOrigin;
+use page_origin::{TupleOrigin, equal_tuples};
 use public_suffix::Rules;
 use std::marker::Model;
-
-fn equal_tuples(a: &TupleOrigin, b: &TupleOrigin) -> bool
-    ensures { result ≡ equal_tuples a.now b.now }
-{
-    a == b
-}
 
 /// By what sites are told apart: suffix rules in the format of the Public Suffix List, and isolated origins, each of which
 /// is a site of its own.
