@@ -40,7 +40,7 @@ ROWS = [
     ("example-redirected-read", 14, "P0 R0", "ends: https://a.com/page", "blocked B4 the body is found to be HTML"),
     ("example-redirected-read", 13, "P0 R2", "gets piece 0, 5 bytes: “<p>hi”", ""),
     ("example-replaced-navigation", 9, "P0 N1", "tells that it committed https://a.com/slow",
-     "drop G3 the order is not waiting: it was committed, replaced or removed"),
+     "drop G3 the order is not waiting: it was committed, replaced or removed, or its process died"),
     ("example-replaced-navigation", 13, "P1 D2", "takes “hello” from https://a.com", ""),
     ("example-opened-page", 9, "P1 D1", "adds a sandboxed frame: https://widget.com/ → frame 2, navigation 2", "ok"),
     ("example-opened-page", 11, "P2 D2", "commits https://widget.com/ as opaque:2:https://widget.com", "ok"),

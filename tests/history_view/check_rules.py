@@ -20,7 +20,7 @@ WORDS = [
     ("N8", "navend", "status 204 or 205 of a navigation"),
     ("B6", "end", "the body is found to be JSON"),
     ("A1", "head", "the CORS check answers SameOrigin"),
-    ("G3", "commit", "the order is not waiting: it was committed, replaced or removed"),
+    ("G3", "commit", "the order is not waiting: it was committed, replaced or removed, or its process died"),
 ]
 
 
