@@ -18,7 +18,7 @@ use Rattle.history_entry.specs.declared.policy.Policy.{Policy}
 use Rattle.history_text.specs.declared.stop.TextStop.{TextStop}
 use Rattle.history_text.specs.declared.stop.TextStop.TheVariants.{BadLine as StopsAt, NoMemory as NoRoom}
 use Rattle.history_text.proofs.Lines.{bad_answered, one_text, text_answered}
-use Rattle.audit_run.specs.Audits.{HoldsOfText, IsAudit, IsFirstIllegal, IsIllegalAt, IsTold, IsToldOfText, IsUnfinishedAt, TellsLegal, under_text}
+use Rattle.audit_run.specs.Audits.{HoldsOfText, IsAudit, IsFirstIllegal, IsIllegalAt, IsTold, IsToldOfText, IsUnfinishedAt, under_text}
 use Rattle.audit_run.specs.declared.answer.Audit.{Audit}
 use Rattle.audit_run.specs.declared.answer.Audit.TheVariants.{BadLine, Entry as BadEntry, Legal as IsLegal, Unfinished}
 
@@ -138,15 +138,8 @@ module _ (rule : ServiceRule) (s : ScriptData) (text : List ℕ) where
   audit_answered (Ok b) good a is = one_audit b a good is
   audit_answered (Err why) good a is = tt
 
-  -- the history of a text of which an audit tells that it is legal
-  legal_history : (a : Audit) → IsAudit rule s text a → TellsLegal a → HoldsOfText text (Legal rule (under_text text s))
-  legal_history (IsLegal n) (g, is, told) tells h whose = subst (Legal rule (under_text text s)) (same_history text g h is whose) told.legal
-  legal_history (BadLine n) told tells h whose = absurd tells
-  legal_history (BadEntry n) told tells h whose = absurd tells
-  legal_history (Unfinished kind) (g, is, told) tells h whose = subst (Legal rule (under_text text s)) (same_history text g h is whose) told.legal
-
-  -- a law of legal histories holds of it
-  pub holds_of_legal : {E : Type 0} (P : List Entry → Type 0) (result : Result Audit E) → IfOk result (IsAudit rule s text)
-      → ((h : List Entry) → Legal rule (under_text text s) h → P h) → IfOk result (λ told. TellsLegal told → HoldsOfText text P)
-  holds_of_legal P (Ok a) good law tells h whose = law h (legal_history a good tells h whose)
-  holds_of_legal P (Err why) good law = tt
+  -- the history of a text that passes is legal
+  pub passing_legal : {E : Type 0} (result : Result Audit E) (n : ℕ) → IfOk result (IsAudit rule s text) → result ≡ Ok (IsLegal n) → HoldsOfText text (Legal rule (under_text text s))
+  passing_legal {E} result n good is h whose =
+      let told : IsToldOfText rule s text (IsLegal n) = subst (λ (r : Result Audit E). IfOk r (IsAudit rule s text)) is good in
+      subst (Legal rule (under_text text s)) (same_history text told.0 h told.1 whose) told.2.legal

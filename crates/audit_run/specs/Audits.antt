@@ -1,6 +1,6 @@
 -- What an audit tells of a text: of which history it is the text, under the policy that the text has, and whether that history is legal
 -- and finished for the script with that policy. Own rules.
-use Rattle.std.specs.Prelude.{◌≡◌, ℕ, List, Some, length, option_map, slice_get, take, ⊤}
+use Rattle.std.specs.Prelude.{◌≡◌, ℕ, List, Some, length, option_map, slice_get, take}
 use Rattle.history_entry.specs.Kinds.{kind_of}
 use Rattle.history_entry.specs.declared.entry.Entry.{Entry}
 use Rattle.history_entry.specs.declared.entry.EntryKind.{EntryKind}
@@ -56,13 +56,6 @@ IsTold rule s h (Unfinished kind) = IsUnfinishedAt rule s h kind
 -- what is told of the history whose text it is
 abbrev pub IsToldOfText : ServiceRule → ScriptData → List ℕ → Audit → Type 0
 IsToldOfText rule s text a = (h : List Entry) × IsTextOf (policy_of text) text h × IsTold rule (under_text text s) h a
-
--- it is told of a legal history: one that is finished, or one that may go on
-abbrev pub TellsLegal : Audit → Type 0
-TellsLegal (IsLegal n) = ⊤
-TellsLegal (BadLine n) = ⊥
-TellsLegal (BadEntry n) = ⊥
-TellsLegal (Unfinished kind) = ⊤
 
 -- P holds of the history whose text it is
 abbrev pub HoldsOfText : List ℕ → (List Entry → Type 0) → Type 0

@@ -1,12 +1,12 @@
 //! The audit of a text.
 
-ghost use Rattle.std.specs.Prelude.{◌≡◌, IfOk, length};
+ghost use Rattle.std.specs.Prelude.{◌≡◌, ℕ, Ok, IfOk, length};
 ghost use Rattle.history_steps.specs.Run.{Legal};
 ghost use Rattle.history_laws.specs.CommitLaw.{CommitLaw};
 ghost use Rattle.history_laws.specs.JudgementLaw.{HonestLaw, JudgementLaw};
 ghost use Rattle.history_laws.specs.KillLaw.{KillLaw};
 ghost use Rattle.history_laws.specs.ReceiveLaw.{ReceiveLaw};
-ghost use Rattle.audit_run.specs.Audits.{HoldsOfText, IsAudit, IsTold, TellsLegal, under_text};
+ghost use Rattle.audit_run.specs.Audits.{HoldsOfText, IsAudit, IsTold, under_text};
 ghost use Rattle.audit_run.specs.Steps.{IsFollowed};
 ghost use Rattle.audit_run.specs.declared.answer.Audit.{Audit as AuditData};
 
@@ -113,12 +113,12 @@ pub fn audit<R: ServiceRule>(
     ensures audit { IfOk result (IsAudit R.rule script text.now) }
     ensures exact { (a : AuditData) → IsAudit R.rule script text.now a → IfOk result (λ told. told ≡ a) }
 
-    // Of the text of a legal history all laws hold, and of a finished one what they say of finished histories.
-    ensures commit { IfOk result (λ told. TellsLegal told → HoldsOfText text.now (CommitLaw R.rule (under_text text.now script))) }
-    ensures receive { IfOk result (λ told. TellsLegal told → HoldsOfText text.now (ReceiveLaw R.rule (under_text text.now script))) }
-    ensures judgement { IfOk result (λ told. TellsLegal told → HoldsOfText text.now (JudgementLaw R.rule (under_text text.now script))) }
-    ensures kill { IfOk result (λ told. TellsLegal told → HoldsOfText text.now (KillLaw (under_text text.now script))) }
-    ensures honest { IfOk result (λ told. TellsLegal told → HoldsOfText text.now (HonestLaw (under_text text.now script))) }
+    // Of a text that passes all laws hold.
+    ensures commit { (n : ℕ) → result ≡ Ok (Audit.Legal n) → HoldsOfText text.now (CommitLaw R.rule (under_text text.now script)) }
+    ensures receive { (n : ℕ) → result ≡ Ok (Audit.Legal n) → HoldsOfText text.now (ReceiveLaw R.rule (under_text text.now script)) }
+    ensures judgement { (n : ℕ) → result ≡ Ok (Audit.Legal n) → HoldsOfText text.now (JudgementLaw R.rule (under_text text.now script)) }
+    ensures kill { (n : ℕ) → result ≡ Ok (Audit.Legal n) → HoldsOfText text.now (KillLaw (under_text text.now script)) }
+    ensures honest { (n : ℕ) → result ≡ Ok (Audit.Legal n) → HoldsOfText text.now (HonestLaw (under_text text.now script)) }
 {
     audit_text(alloc, script, services, text)
 }
