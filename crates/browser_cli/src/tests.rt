@@ -43,12 +43,7 @@ struct Ended {
 fn failing_sink(alloc: Global, step: usize, failing: Option<u64>) -> Result<MemSink, Fail>
     requires { 1 ≤ step }
 {
-    Ok(MemSink::new(
-        alloc,
-        4096,
-        step,
-        failing.into_iter().collect(alloc)?,
-    )?)
+    Ok(MemSink::new(alloc, 4096, step, failing.into_iter().collect(alloc)?)?)
 }
 
 fn ending_of(alloc: Global, status: &Status, sink: &MemSink) -> Result<Ended, Fail> {

@@ -263,8 +263,20 @@ fn writes_may_fail_at_any_call(rt: HostRuntime) -> Result<(), Fail> {
     let audit = page_audit(alloc)?;
     for step in STEPS {
         each_write_fails(&rt, alloc, Writer::Command("one", PAGE), step, PAGE_TEXT)?;
-        each_write_fails(&rt, alloc, Writer::Command("one", FORGER), step, FORGER_TEXT)?;
-        each_write_fails(&rt, alloc, Writer::Command("audit", &audit), step, "legal 3\n")?;
+        each_write_fails(
+            &rt,
+            alloc,
+            Writer::Command("one", FORGER),
+            step,
+            FORGER_TEXT,
+        )?;
+        each_write_fails(
+            &rt,
+            alloc,
+            Writer::Command("audit", &audit),
+            step,
+            "legal 3\n",
+        )?;
         each_write_fails(&rt, alloc, Writer::Summary(READER), step, READER_SUMMARY)?;
     }
     Ok(())

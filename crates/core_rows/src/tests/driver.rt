@@ -151,11 +151,7 @@ fn piece(
         return Err(Fail::new("a piece has bytes"));
     }
     let cleared = leave(alloc, script, task, request, task.mode)?;
-    Ok(Step::Piece(Part::new(
-        index,
-        PieceBytes::new(bytes),
-        cleared,
-    )))
+    Ok(Step::Piece(Part::new(index, PieceBytes::new(bytes), cleared)))
 }
 
 fn step_of(alloc: Global, script: &Script, task: &LoadTask, came: Came) -> Result<Step, Fail> {

@@ -74,12 +74,9 @@ impl Gate for FirstTasks {
         let Point::Claimed(key) = point else {
             return;
         };
-        let noted = self.of(worker).compare_exchange(
-            0,
-            kind_of(key),
-            Ordering::SeqCst,
-            Ordering::SeqCst,
-        );
+        let noted = self
+            .of(worker)
+            .compare_exchange(0, kind_of(key), Ordering::SeqCst, Ordering::SeqCst);
         if noted.is_ok() {
             self.claimed.fetch_add(1, Ordering::SeqCst);
             self.hold();
