@@ -47,6 +47,7 @@ crash 0
             Do::None(Kind::Loader, 1),
             Do::Refused(0, Came::Piece(1, "b")),
             Do::Refused(0, Came::Piece(0, "ab")),
+            Do::Refused(0, Came::Piece(1, "a")),
             Do::Bring(0, Came::Piece(0, "a"), Applied::Entry(5)),
             Do::Bring(0, Came::Piece(0, "a"), Applied::Stale(5)),
             Do::Claim(Kind::Loader, LOAD_0),
@@ -112,6 +113,77 @@ said 0 0 0 0 fetch cors https://a.com 68747470733a2f2f612e636f6d2f64 => ok
 head 0 A1
 piece 0 0 61
 end 0 failed N7
+",
+    },
+    Row {
+        shows: "a process that died before a block was handed out: the end could follow last before the crash",
+        script: r#"{"start":["https://a.com/"],"resources":[{"url":"https://a.com/","actions":[
+{"do":"fetch","url":"https://b.com/x","mode":"no-cors"},{"do":"crash"}]},
+{"url":"https://b.com/x","headers":[["Content-Type","text/html"]],"body":"<html>"}]}"#,
+        steps: &[
+            Do::First(4),
+            Do::Claim(Kind::Loader, LOAD_0),
+            Do::Claim(Kind::Renderer, ACT_0),
+            Do::Bring(1, Came::Done, Applied::Entry(4)),
+            Do::None(Kind::Loader, 1),
+            Do::Bring(0, Came::Gone, Applied::Stale(4)),
+            Do::None(Kind::Loader, 0),
+            Do::Finished,
+        ],
+        history: "open 0
+order 0 0 https://a.com https://a.com https://a.com/
+commit 0 0 https://a.com 68747470733a2f2f612e636f6d2f => ok
+said 0 0 0 0 fetch no-cors https://a.com 68747470733a2f2f622e636f6d2f78 => ok
+crash 0
+",
+    },
+    Row {
+        shows: "a process that died before the end was handed out: head, piece and end could follow, and the end last",
+        script: r#"{"start":["https://a.com/"],"resources":[{"url":"https://a.com/","actions":[
+{"do":"fetch","url":"https://a.com/d","mode":"cors"},{"do":"crash"}]},{"url":"https://a.com/d","body":"x"}]}"#,
+        steps: &[
+            Do::First(4),
+            Do::Claim(Kind::Loader, LOAD_0),
+            Do::Claim(Kind::Renderer, ACT_0),
+            Do::Bring(0, Came::Head, Applied::Entry(4)),
+            Do::Bring(0, Came::Piece(0, "x"), Applied::Entry(5)),
+            Do::Bring(1, Came::Done, Applied::Entry(6)),
+            Do::None(Kind::Loader, 1),
+            Do::Bring(0, Came::Gone, Applied::Stale(6)),
+            Do::None(Kind::Loader, 0),
+            Do::Finished,
+        ],
+        history: "open 0
+order 0 0 https://a.com https://a.com https://a.com/
+commit 0 0 https://a.com 68747470733a2f2f612e636f6d2f => ok
+said 0 0 0 0 fetch cors https://a.com 68747470733a2f2f612e636f6d2f64 => ok
+head 0 A1
+piece 0 0 78
+crash 0
+",
+    },
+    Row {
+        shows: "a head that could follow at two places one behind the other was last in time at the second",
+        script: r#"{"start":["https://a.com/"],"resources":[{"url":"https://a.com/","actions":[
+{"do":"fetch","url":"https://a.com/d","mode":"cors"},{"do":"fetch","url":"https://a.com/e","mode":"cors"},{"do":"crash"}]},
+{"url":"https://a.com/d","body":"x"}]}"#,
+        steps: &[
+            Do::First(4),
+            Do::Claim(Kind::Loader, LOAD_0),
+            Do::Claim(Kind::Renderer, ACT_0),
+            Do::Bring(1, Came::Done, Applied::Entry(4)),
+            Do::Claim(Kind::Renderer, ACT_0),
+            Do::Bring(2, Came::Done, Applied::Entry(5)),
+            Do::Bring(0, Came::Head, Applied::Stale(5)),
+            Do::None(Kind::Loader, 0),
+            Do::Finished,
+        ],
+        history: "open 0
+order 0 0 https://a.com https://a.com https://a.com/
+commit 0 0 https://a.com 68747470733a2f2f612e636f6d2f => ok
+said 0 0 0 0 fetch cors https://a.com 68747470733a2f2f612e636f6d2f64 => ok
+said 0 0 1 0 fetch cors https://a.com 68747470733a2f2f612e636f6d2f65 => ok
+crash 0
 ",
     },
 ];

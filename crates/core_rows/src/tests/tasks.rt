@@ -197,6 +197,46 @@ piece 0 0 78
 end 0 whole
 ",
     },
+    Row {
+        shows: "two spare processes came of one job, and it is too late behind the second",
+        script: r#"{"start":["https://a.com/"],"spare":true}"#,
+        steps: &[
+            Do::Claim(Kind::Browser, OPEN_0),
+            Do::Claim(Kind::Browser, WARM),
+            Do::Bring(1, Came::Done, Applied::Entry(0)),
+            Do::Bring(0, Came::Done, Applied::Entry(1)),
+            Do::Bring(1, Came::Done, Applied::Stale(0)),
+            Do::Claim(Kind::Browser, NAV_0),
+            Do::Bring(2, Came::Done, Applied::Entry(2)),
+            Do::Bring(1, Came::Done, Applied::Entry(3)),
+            Do::Bring(1, Came::Done, Applied::Stale(3)),
+        ],
+        history: "warm 0
+open 0
+order 0 0 https://a.com https://a.com https://a.com/
+warm 1
+",
+    },
+    Row {
+        shows: "a redirect and an order came of one job, and it is too late behind the order",
+        script: r#"{"start":["https://a.com/r"],"resources":[{"url":"https://a.com/r","status":302,"headers":[["Location","/"]]},
+{"url":"https://a.com/"}]}"#,
+        steps: &[
+            Do::First(1),
+            Do::Claim(Kind::Browser, NAV_0),
+            Do::Bring(0, Came::Done, Applied::Entry(1)),
+            Do::Bring(0, Came::Done, Applied::Entry(2)),
+            Do::Bring(0, Came::Done, Applied::Stale(2)),
+            Do::First(1),
+            Do::Bring(0, Came::Done, Applied::Stale(2)),
+            Do::Finished,
+        ],
+        history: "open 0
+hop nav 0 https://a.com/
+order 0 0 https://a.com https://a.com https://a.com/
+commit 0 0 https://a.com 68747470733a2f2f612e636f6d2f => ok
+",
+    },
 ];
 
 #[test]
