@@ -1,5 +1,7 @@
 //! Of which kind the first task of each of three workers is, where a task of each kind is ready.
 
+ghost use Rattle.std.specs.Prelude.{◌≡◌};
+
 use browser_workers::{Core, Gate, Point, Store, TaskKey, run_workers};
 use script_input::read_script;
 use std::alloc::Global;
@@ -89,14 +91,24 @@ const SCRIPT: &str = r#"{"start":["https://a.com/"],"resources":[{"url":"https:/
 {"do":"fetch","url":"https://a.com/d","mode":"cors"},{"do":"frame","src":"https://a.com/f"},
 {"do":"post","frame":"self","target":"*","text":"hi"}]},{"url":"https://a.com/d","body":"x"}]}"#;
 
+/// Adds the first five entries of a core's run.
+fn begin(alloc: Global, core: &mut Core<'_, Store>) -> Result<(), Fail>
+    ensures { core.new.script ≡ core.old.script }
+{
+    core.first(alloc)?;
+    core.first(alloc)?;
+    core.first(alloc)?;
+    core.first(alloc)?;
+    core.first(alloc)?;
+    Ok(())
+}
+
 #[test]
 fn each_worker_asks_for_its_own_kind(rt: HostRuntime) -> Result<(), Fail> {
     let alloc = rt.alloc();
     let script = read_script(alloc, SCRIPT.as_bytes())?;
     let mut core = Core::new(alloc, &script, Store::new(alloc))?;
-    for _ in 0..5 {
-        core.first(alloc)?;
-    }
+    begin(alloc, &mut core)?;
     let gate = FirstTasks::new();
     let core = run_workers(&rt, alloc, &script, core, 3, &gate)?;
     assert!(rt; core.finished(alloc)?);
