@@ -15,8 +15,8 @@ use Rattle.browser_tasks.specs.declared.outcome.Outcome.{Outcome}
 use Rattle.browser_core.specs.Applying.{AddsEntry, IsTooLate}
 use Rattle.browser_core.specs.Cores.{IsInStep, KeepAllAccepted}
 use Rattle.browser_core.specs.Walking.{IsLastWell, Settles, TellsFollowing, WasPossible}
-use Rattle.browser_core.specs.declared.applying.Settled.{Settled}
-use Rattle.browser_core.specs.declared.applying.Settled.TheVariants.{Entry as Adds, Stale}
+use Rattle.browser_core.specs.declared.facts.settling.Settled.{Settled}
+use Rattle.browser_core.specs.declared.facts.settling.Settled.TheVariants.{Entry as Adds, Stale}
 
 -- the entry that its candidate becomes
 pub settles_entry : (rule : ServiceRule) (s : ScriptData) (h : List Entry) (outcome : Outcome) (found : Option Candidate) (candidate : Candidate) (entry : Entry) → Legal rule s h

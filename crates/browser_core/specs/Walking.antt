@@ -8,8 +8,8 @@ use Rattle.history_steps.specs.Run.{Legal}
 use Rattle.browser_tasks.specs.Outcomes.{CanFollow, CannotFollow, IsEntryOf, IsOutcome}
 use Rattle.browser_tasks.specs.declared.outcome.Outcome.{Outcome}
 use Rattle.browser_core.specs.Applying.{IsLast}
-use Rattle.browser_core.specs.declared.applying.Settled.{Settled}
-use Rattle.browser_core.specs.declared.applying.Settled.TheVariants.{Entry as Adds, Stale}
+use Rattle.browser_core.specs.declared.facts.settling.Settled.{Settled}
+use Rattle.browser_core.specs.declared.facts.settling.Settled.TheVariants.{Entry as Adds, Stale}
 
 -- whether one of the outcome's entries may follow a legal history, whatever its services' rule is
 abbrev pub TellsFollowing : ScriptData → List Entry → Outcome → Bool → Type 0

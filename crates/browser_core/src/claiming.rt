@@ -1,36 +1,17 @@
 //! What a worker gets that asks for a task.
 
-ghost use Rattle.std.specs.Prelude.{◌≡◌, ◌-◌, ◌<◌, ◌^◌, [], IfOk, IfSome, OnErr, false, length};
+ghost use Rattle.std.specs.Prelude.{◌≡◌, ◌-◌, ◌<◌, ◌^◌, [], IfOk, OnErr, false, length};
 ghost use Rattle.std.specs.Bool.{OnFalse};
-ghost use Rattle.std.specs.Option.{option_map};
 ghost use Rattle.browser_core.specs.Handing.{ClaimsWell, HandsOver};
-ghost use Rattle.browser_tasks.specs.Readiness.{ChoosesWell};
-ghost use Rattle.browser_tasks.specs.TaskData.{HoldsFacts, IsLegal};
+ghost use Rattle.browser_tasks.specs.TaskData.{IsLegal};
 ghost use Rattle.work_queue.specs.Keys.{key_of};
 ghost use Rattle.work_queue.specs.Work.{SameTasks, is_out};
 
-use browser_tasks::{Entry, Kind, Task, Tasks, next_task};
-use plain_facts::PlainFacts;
+use crate::facts::ready_task;
+use browser_tasks::{Entry, Kind, Task, Tasks};
 use script_model::{NoMemory, Script};
 use std::alloc::Global;
 use work_queue::Claim;
-
-/// A ready task for a worker of a kind.
-fn find_task(
-    alloc: Global,
-    script: &Script,
-    entries: &[Entry],
-    tasks: &Tasks,
-    kind: Kind,
-) -> Result<Option<Task>, NoMemory>
-    requires none { tasks.now.ready ≡ [] }
-    requires legal { IsLegal script.now entries.now }
-    ensures chosen { IfOk result (λ task. ChoosesWell script.now entries.now tasks.now.out kind (option_map key_of task)) }
-    ensures holds { IfOk result (λ task. IfSome task (HoldsFacts script.now entries.now)) }
-{
-    let facts = PlainFacts::new(alloc, script, entries)?;
-    next_task(alloc, &facts, tasks, kind)
-}
 
 /// Whether no more tasks can be counted.
 fn is_full(tasks: &mut Tasks, kind: Kind) -> bool
@@ -72,7 +53,7 @@ pub(crate) fn claim_task(
     ensures none { tasks.new.ready ≡ [] }
     ensures err { OnErr result (tasks.new.out ≡ tasks.old.out) }
 {
-    match find_task(alloc, script, entries, tasks, kind)? {
+    match ready_task(alloc, script, entries, tasks, kind)? {
         Some(task) => hand_out(tasks, kind, task),
         None => Ok(tasks.claim(kind)),
     }

@@ -3,16 +3,13 @@
 //! A [`Core`] holds a script, a history of it, and the services that its documents ask. Whatever is called, the history is legal
 //! under the services' rule, and the services keep exactly what it accepted. [`Core::first`] adds the first of the entries that
 //! may follow, so a core that is driven by it alone makes the run of one thread, as [`run`] does. Workers ask for tasks by
-//! [`Core::claim`] and bring back what came of them by [`Core::apply`], in any order. The facts of the history are asked in
-//! `browser_tasks`, in `facts` here, and in the modules of `history` that say what may follow; they go through the list at each
-//! question.
+//! [`Core::claim`] and bring back what came of them by [`Core::apply`], in any order. All that the core asks of its history it asks
+//! in the module `facts`, and nothing else of it looks at the list of entries.
 #![tactic(auto)]
 
 mod applying;
 mod claiming;
 mod facts;
-mod first;
-mod possible;
 mod running;
 mod state;
 mod steps;

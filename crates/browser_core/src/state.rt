@@ -11,8 +11,7 @@ ghost use Rattle.browser_tasks.specs.Outcomes.{IsOutcome};
 
 use crate::applying::{Applied, append_outcome, end_task};
 use crate::claiming::claim_task;
-use crate::first::has_next;
-use crate::possible::{could_follow, is_vouched};
+use crate::facts::{could_follow, has_next, is_vouched};
 use crate::steps::append_first;
 use browser_tasks::{Kind, Outcome, Tasks};
 use history::History;

@@ -41,6 +41,76 @@ fn claim(alloc: Global, own: &Origin, claimed: &Option<TupleOrigin>) -> Result<O
     }
 }
 
+/// The message that a forged navigation stands for.
+fn raw_navigate(
+    alloc: Global,
+    own: &Origin,
+    frame: u32,
+    url: &RawUrl,
+    initiator: &Option<TupleOrigin>,
+) -> Result<Body, NoMemory>
+    ensures { IfOk result (λ copy. copy ≡ actions.raw_body own.now (RawBody.Navigate frame url.now initiator.now)) }
+{
+    Ok(Body::Navigate {
+        frame,
+        url: url.copy(alloc)?,
+        initiator: claim(alloc, own, initiator)?,
+    })
+}
+
+/// The message that a forged fetch stands for.
+fn raw_fetch(
+    alloc: Global,
+    own: &Origin,
+    url: &RawUrl,
+    mode: Mode,
+    initiator: &Option<TupleOrigin>,
+) -> Result<Body, NoMemory>
+    ensures { IfOk result (λ copy. copy ≡ actions.raw_body own.now (RawBody.Fetch url.now mode initiator.now)) }
+{
+    Ok(Body::Fetch {
+        url: url.copy(alloc)?,
+        mode,
+        initiator: claim(alloc, own, initiator)?,
+    })
+}
+
+/// The message that a forged post stands for.
+fn raw_post(
+    alloc: Global,
+    own: &Origin,
+    frame: u32,
+    target: &Target,
+    source: &Option<TupleOrigin>,
+    text: &RequestText,
+) -> Result<Body, NoMemory>
+    ensures { IfOk result (λ copy. copy ≡ actions.raw_body own.now (RawBody.Post frame target.now source.now text.now)) }
+{
+    Ok(Body::Post {
+        frame,
+        target: target.copy(alloc)?,
+        source: claim(alloc, own, source)?,
+        text: text.copy(alloc)?,
+    })
+}
+
+/// The message that a forged request to a service stands for.
+fn raw_ask(
+    alloc: Global,
+    own: &Origin,
+    service: &ServiceName,
+    origin: &Option<TupleOrigin>,
+    request: &RequestText,
+) -> Result<Body, NoMemory>
+    ensures { IfOk result (λ copy. copy ≡ actions.raw_body own.now (RawBody.Ask service.now origin.now request.now)) }
+{
+    Ok(Body::Ask {
+        service: service.copy(alloc)?,
+        origin: claim(alloc, own, origin)?,
+        request: request.copy(alloc)?,
+    })
+}
+
 /// The message that a forged one stands for.
 fn raw_body(alloc: Global, own: &Origin, body: &RawBody) -> Result<Body, NoMemory>
     ensures { IfOk result (λ copy. copy ≡ actions.raw_body own.now body.now) }
@@ -50,11 +120,7 @@ fn raw_body(alloc: Global, own: &Origin, body: &RawBody) -> Result<Body, NoMemor
             frame,
             url,
             initiator,
-        } => Ok(Body::Navigate {
-            frame: *frame,
-            url: url.copy(alloc)?,
-            initiator: claim(alloc, own, initiator)?,
-        }),
+        } => raw_navigate(alloc, own, *frame, url, initiator),
         RawBody::Frame { src, sandbox } => Ok(Body::AddFrame {
             src: src.copy(alloc)?,
             sandbox: *sandbox,
@@ -67,31 +133,18 @@ fn raw_body(alloc: Global, own: &Origin, body: &RawBody) -> Result<Body, NoMemor
             url,
             mode,
             initiator,
-        } => Ok(Body::Fetch {
-            url: url.copy(alloc)?,
-            mode: *mode,
-            initiator: claim(alloc, own, initiator)?,
-        }),
+        } => raw_fetch(alloc, own, url, *mode, initiator),
         RawBody::Post {
             frame,
             target,
             source,
             text,
-        } => Ok(Body::Post {
-            frame: *frame,
-            target: target.copy(alloc)?,
-            source: claim(alloc, own, source)?,
-            text: text.copy(alloc)?,
-        }),
+        } => raw_post(alloc, own, *frame, target, source, text),
         RawBody::Ask {
             service,
             origin,
             request,
-        } => Ok(Body::Ask {
-            service: service.copy(alloc)?,
-            origin: claim(alloc, own, origin)?,
-            request: request.copy(alloc)?,
-        }),
+        } => raw_ask(alloc, own, service, origin, request),
         RawBody::Commit { nav, url, origin } => Ok(Body::DidCommit {
             nav: *nav,
             url: url.copy(alloc)?,

@@ -5,12 +5,13 @@ use Rattle.browser_core.proofs.Filling.{added_in_step}
 use Rattle.browser_core.proofs.applying.fill_outcome.Goals as goal
 use Rattle.browser_core.specs.Cores.{KeepAllAccepted}
 use Rattle.browser_core.specs.Walking.{Settles, added_by}
-use Rattle.browser_core.specs.declared.applying.Settled.{Settled}
+use Rattle.browser_core.specs.declared.facts.settling.Settled.{Settled}
 
 pub overflow_cast-result : goal.overflow_cast-result
 overflow_cast-result g c =
     let few : length c.args.roomy < 400000 = bounded g.V.Service.rule c.args.script.now c.requires.limits c.args.roomy c.requires.kept.is_legal in
     let same : length c.entries-place.result.now ≡ length c.args.roomy = ap (λ (h : List Entry). length h) c.entries-place.ensures in
+    let told : c.entry_count-place.result ≡ length c.entries-place.result.now = c.entry_count-place.ensures in
     omega arith
 
 pub outcome_entry-requires-clause-short : goal.outcome_entry-requires-clause-short

@@ -8,6 +8,7 @@ pub overflow_cast-result : goal.overflow_cast-result
 overflow_cast-result g c =
     let few : length c.args.roomy < 400000 = bounded g.V.Service.rule c.args.script.now c.requires.limits c.args.roomy c.requires.kept.is_legal in
     let same : length c.entries-place.result.now ≡ length c.args.roomy = ap (λ (h : List Entry). length h) c.entries-place.ensures in
+    let told : c.entry_count-place.result ≡ length c.entries-place.result.now = c.entry_count-place.ensures in
     omega arith
 
 pub returns-in-Ok-Some-clause-kept : goal.returns-in-Ok-Some-clause-kept
