@@ -7,6 +7,8 @@
 
 ghost use Rattle.std.specs.Prelude.{◌≡◌, length};
 
+use history::Entry;
+
 mod first;
 mod judgement;
 mod outcomes;
@@ -15,7 +17,6 @@ mod ready;
 mod settling;
 
 pub(crate) use first::has_next;
-use history::Entry;
 pub(crate) use possible::{could_follow, is_vouched};
 pub(crate) use ready::ready_task;
 pub(crate) use settling::{Settled, first_entry, outcome_entry};

@@ -19,6 +19,3 @@ pub use kept::{entries_are_kept, entry_is_kept, source_is_kept, target_is_kept};
 pub use laws::{entries_have_one_spelling, no_line_begins_another};
 pub use reading::{read_entry, read_line, read_message, read_reply};
 pub use stop::{EntryStop, MessageStop, ReplyStop};
-
-#[cfg(test)]
-mod tests;

@@ -13,6 +13,3 @@ mod replies;
 pub use bodies::message_text;
 pub use lines::{put_entry, put_line};
 pub use replies::reply_text;
-
-#[cfg(test)]
-mod tests;

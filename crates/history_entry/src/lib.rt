@@ -24,6 +24,3 @@ pub use policy::Policy;
 pub use reply::Reply;
 pub use rule::Rule;
 pub use text::{RawUrl, RequestText, ServiceName};
-
-#[cfg(test)]
-mod tests;

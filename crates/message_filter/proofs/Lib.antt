@@ -2,4 +2,3 @@ pub mod Gains
 pub mod Made
 pub mod Compared
 pub mod Numbers
-pub mod Unasked

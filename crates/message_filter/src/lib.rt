@@ -14,6 +14,3 @@ mod rows;
 pub use facts::Facts;
 pub use judgement::judge;
 pub use origin_service::Service;
-
-#[cfg(test)]
-mod tests;

@@ -13,6 +13,3 @@ mod standings;
 
 pub use changes::last_change;
 pub use standings::standing_of;
-
-#[cfg(test)]
-mod tests;

@@ -26,6 +26,3 @@ mod word;
 
 pub use refusal::{PathText, Refusal, ScriptStop};
 pub use script::read_script;
-
-#[cfg(test)]
-mod tests;

@@ -41,6 +41,3 @@ pub use script::{Script, find};
 pub use service_rule::{Asked, PlainStore, ServiceAnswer, ServiceRule};
 pub use site_url::{SiteRules, same_site, site_of, site_of_origin};
 pub use verdict::{Verdict, sniff_kind, sniffed_verdict};
-
-#[cfg(test)]
-mod tests;

@@ -18,6 +18,3 @@ pub use act::act_done;
 pub use browser_tasks::{ActDone, LoadDone, Outcome, Step, Task};
 pub use claims::claim_is_read;
 pub use load::TaskLoad;
-
-#[cfg(test)]
-mod tests;

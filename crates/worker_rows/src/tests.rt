@@ -1,6 +1,8 @@
 //! Each script is run by one, four and sixteen workers.
 
 mod kinds;
+mod standings;
+mod works;
 
 use audit_run::{Audit, audit};
 use browser_workers::{Core, Gate, Point, Standing, Store, run_workers};

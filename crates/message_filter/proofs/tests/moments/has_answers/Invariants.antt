@@ -1,6 +1,0 @@
-use Rattle.std.proofs.Common.{take}
-use Rattle.message_filter.proofs.Unasked.{IsUnasked}
-use Rattle.message_filter.proofs.tests.moments.has_answers.Given as goal
-
-abbrev pub invariant-loop-entry : goal.invariant-loop-entry
-invariant-loop-entry l = IsUnasked (take l.entry-index l.entries)

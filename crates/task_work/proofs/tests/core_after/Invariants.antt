@@ -1,5 +1,0 @@
-use Rattle.std.proofs.Common.{◌≡◌}
-use Rattle.task_work.proofs.tests.core_after.Given as goal
-
-abbrev pub invariant-loop : goal.invariant-loop
-invariant-loop l = l.core.script ≡ l.fn.script
