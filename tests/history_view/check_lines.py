@@ -103,8 +103,8 @@ def is_bad(checks, line):
 
 
 def check_proved_tables(checks):
-    """The tables of `entry_reading`, whose lines the proved reader takes and refuses."""
-    fields, lines = "crates/entry_reading/src/tests/fields.rt", "crates/entry_reading/src/tests/lines.rt"
+    """The tables of `entry_rows`, whose lines the proved reader takes and refuses."""
+    fields, lines = "crates/entry_rows/src/tests/readings/fields.rt", "crates/entry_rows/src/tests/readings/lines.rt"
     for places, good, bad in [("NUMBER_PLACES", "NUMBERS", "BAD_NUMBERS"), ("TEXT_PLACES", "TEXTS", "BAD_TEXTS"),
                               ("SITE_PLACES", "SITES", "BAD_SITES"), ("ORIGIN_PLACES", "ORIGINS", "BAD_ORIGINS"),
                               ("RULE_PLACES", "RULES", "BAD_RULES"), (None, "PIECES", "BAD_PIECES")]:
