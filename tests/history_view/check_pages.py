@@ -22,29 +22,36 @@ HOSTILE = [
 # Lines of a page of such texts, and how a text is seen there.
 SEEN = [(7, "posts “{}” to frame 0"), (8, "takes “{}” from"), (9, "opens a page: {}"), (12, "“{}"), (14, "asks {}: “{}”"),
         (15, "navigates frame 0 to {}")]
+
+
+def who(**numbers):
+    """How a row names what its entry is about: each kind by its first letter and its number, as "P0" for process 0."""
+    return " ".join(f"{kind[0].upper()}{number}" for kind, number in numbers.items())
+
+
 # A case, a line, and what its row says: who, what is done, what came of it.
 ROWS = [
-    ("example-forged-commit", 10, "P1 D1", "forged claims that navigation 2 committed https://bank.com/",
+    ("example-forged-commit", 10, who(process=1, document=1), "forged claims that navigation 2 committed https://bank.com/",
      "kill K9 the URL's text is not the order's"),
-    ("example-forged-commit", 12, "P0 D0", "posts “hello” to frame 1, for anyone", "drop M1 the frame has no document"),
-    ("example-ad-frame", 5, "P0 D0", "adds a frame: https://ads.adnet.com/top → frame 1, navigation 1", "ok"),
-    ("example-ad-frame", 6, "P1 N1",
+    ("example-forged-commit", 12, who(process=0, document=0), "posts “hello” to frame 1, for anyone", "drop M1 the frame has no document"),
+    ("example-ad-frame", 5, who(process=0, document=0), "adds a frame: https://ads.adnet.com/top → frame 1, navigation 1", "ok"),
+    ("example-ad-frame", 6, who(process=1, navigation=1),
      "is ordered to commit https://ads.adnet.com/top; the process is locked to https://adnet.com", ""),
-    ("example-ad-frame", 14, "P1", "exits: no document is left in it", "exit"),
-    ("example-store-per-origin", 6, "P0 D0", "asks store: “get cart”", "answer “some 3 pears”"),
-    ("example-store-per-origin", 18, "P0 D0", "forged asks store as https://bank.com: “get cart”",
+    ("example-ad-frame", 14, who(process=1), "exits: no document is left in it", "exit"),
+    ("example-store-per-origin", 6, who(process=0, document=0), "asks store: “get cart”", "answer “some 3 pears”"),
+    ("example-store-per-origin", 18, who(process=0, document=0), "forged asks store as https://bank.com: “get cart”",
      "kill K7 the origin's site is not the lock of the process"),
-    ("example-login-redirects", 6, "N1", "is redirected to https://login.com/start?for=shop", ""),
-    ("example-login-redirects", 13, "N3", "ends without a commit: https://login.com/quiet",
+    ("example-login-redirects", 6, who(navigation=1), "is redirected to https://login.com/start?for=shop", ""),
+    ("example-login-redirects", 13, who(navigation=3), "ends without a commit: https://login.com/quiet",
      "ended N8 status 204 or 205 of a navigation"),
-    ("example-redirected-read", 14, "P0 R0", "ends: https://a.com/page", "blocked B4 the body is found to be HTML"),
-    ("example-redirected-read", 13, "P0 R2", "gets piece 0, 5 bytes: “<p>hi”", ""),
-    ("example-replaced-navigation", 9, "P0 N1", "tells that it committed https://a.com/slow",
+    ("example-redirected-read", 14, who(process=0, request=0), "ends: https://a.com/page", "blocked B4 the body is found to be HTML"),
+    ("example-redirected-read", 13, who(process=0, request=2), "gets piece 0, 5 bytes: “<p>hi”", ""),
+    ("example-replaced-navigation", 9, who(process=0, navigation=1), "tells that it committed https://a.com/slow",
      "drop G3 the order is not waiting: it was committed, replaced or removed, or its process died"),
-    ("example-replaced-navigation", 13, "P1 D2", "takes “hello” from https://a.com", ""),
-    ("example-opened-page", 9, "P1 D1", "adds a sandboxed frame: https://widget.com/ → frame 2, navigation 2", "ok"),
-    ("example-opened-page", 11, "P2 D2", "commits https://widget.com/ as opaque:2:https://widget.com", "ok"),
-    ("a-spare-process", 3, "P0", "is kept ready, without a lock yet", ""),
+    ("example-replaced-navigation", 13, who(process=1, document=2), "takes “hello” from https://a.com", ""),
+    ("example-opened-page", 9, who(process=1, document=1), "adds a sandboxed frame: https://widget.com/ → frame 2, navigation 2", "ok"),
+    ("example-opened-page", 11, who(process=2, document=2), "commits https://widget.com/ as opaque:2:https://widget.com", "ok"),
+    ("a-spare-process", 3, who(process=0), "is kept ready, without a lock yet", ""),
 ]
 
 
