@@ -1,7 +1,0 @@
-use Rattle.std.proofs.Common.{◌≤◌, List, length, ℕ}
-use Rattle.page_origin.specs.declared.origin.TupleOrigin.{TupleOrigin}
-use Rattle.origin_service.specs.Shelves.{kept_by}
-use Rattle.origin_service.proofs.tests.requests_in_turn.Given as goal
-
-abbrev pub invariant-loop-page : goal.invariant-loop-page
-invariant-loop-page g l = (name : List ℕ) (tuple : TupleOrigin) → length (kept_by l.store name tuple) ≤ l.page-index
