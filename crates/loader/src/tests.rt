@@ -1,4 +1,4 @@
-//! Steps of loads over a wire in memory: a page of another site, asked for in mode no-cors.
+//! Steps of loads over a wire in memory: a page of another site that is asked for in mode no-cors, and other requests and heads.
 
 ghost use Rattle.std.specs.Prelude.{◌≡◌, true, IfOk};
 ghost use Rattle.browser_io.specs.Scripted.{IsCutFrom};
@@ -6,11 +6,11 @@ ghost use Rattle.loader.specs.Loads.{taken_count};
 
 use crate::{Judge, Load, ScriptWire, Step};
 use browser_io::MAX_PIECE;
-use script_model::{Mode, Policy, Rules, SiteRules};
+use script_model::{Head, Mode, Origin, Policy, Rules, SiteRules};
 use std::alloc::{AllocError, Global};
 use std::fmt::Write;
 use std::test::Fail;
-use test_support::{head, origin, web_chain};
+use test_support::{head, opaque_origin, origin, web_chain};
 
 fn are_cuts(from: u32, size: usize, cuts: &[u32]) -> bool
     ensures { result ≡ true → IsCutFrom from size cuts.now }
@@ -36,26 +36,35 @@ fn wire<'a>(
     Ok(ScriptWire::new(body, cuts, fail_after))
 }
 
+/// Names and values of header fields.
+type Fields = &'static [(&'static str, &'static str)];
+
+/// A load for a document of this origin, of the response of this head behind this chain.
+fn load_of(
+    alloc: Global,
+    policy: Policy,
+    origin: &Origin,
+    mode: Mode,
+    chain: &[&str],
+    head: &Head,
+) -> Result<Load, Fail>
+    ensures { IfOk result (λ load. taken_count load.progress ≡ 0) }
+{
+    let rules = SiteRules::new(Rules::read(alloc, b"")?, Vec::new(alloc));
+    let chain = web_chain(alloc, chain)?;
+    let judge = Judge::new(alloc, &rules, policy, 7, origin, &chain, mode, head)?;
+    let load = Load::new(alloc, judge)?;
+    Ok(load)
+}
+
 /// A load of a page of `https://b.com` for a document of `https://a.com`.
 fn load(alloc: Global) -> Result<Load, Fail>
     ensures { IfOk result (λ load. taken_count load.progress ≡ 0) }
 {
-    let rules = SiteRules::new(Rules::read(alloc, b"")?, Vec::new(alloc));
     let origin = origin(alloc, "https://a.com/")?;
-    let chain = web_chain(alloc, &["https://b.com/"])?;
     let head = head(alloc, 200, &[("Content-Type", "text/html")])?;
-    let judge = Judge::new(
-        alloc,
-        &rules,
-        Policy::Two,
-        7,
-        &origin,
-        &chain,
-        Mode::NoCors,
-        &head,
-    )?;
-    let load = Load::new(alloc, judge)?;
-    Ok(load)
+    let chain = &["https://b.com/"];
+    load_of(alloc, Policy::Two, &origin, Mode::NoCors, chain, &head)
 }
 
 /// The text of a piece, or a mark where it has more than eight bytes.
@@ -93,9 +102,15 @@ fn write_step(out: &mut String, step: &Step) -> Result<bool, AllocError> {
     Ok(matches!(step, Step::Held | Step::Head(_) | Step::Piece(_)))
 }
 
-/// The steps of a load over this wire, to its end. At the step with this number the process that asked is dead.
-fn steps(alloc: Global, mut wire: ScriptWire, gone_at: Option<u32>) -> Result<String, Fail> {
-    let mut load = load(alloc)?;
+/// The steps of a fresh load over this wire, to its end. At the step with this number the process that asked is dead.
+fn steps(
+    alloc: Global,
+    mut load: Load,
+    mut wire: ScriptWire,
+    gone_at: Option<u32>,
+) -> Result<String, Fail>
+    requires { taken_count load.progress ≡ 0 }
+{
     let mut out = String::new(alloc);
     for number in 0..20 {
         let step = load.step(alloc, &mut wire, gone_at == Some(number))?;
@@ -127,6 +142,50 @@ const ROWS: &[Row] = &[
     (b"hello", &[1, 3], None, Some(3), "Head A5,0h,1el,Gone"),
     (b"hello", &[1, 3], None, Some(4), "Head A5,0h,1el,2lo,Gone"),
     (b"<p", &[1], None, Some(1), "Held,Gone"),
+    // It dies within the window: before the first piece, behind one and behind two that are held, and as the body ends.
+    (b"<p", &[1], None, Some(0), "Gone"),
+    (b"<!-- x", &[2, 4], None, Some(1), "Held,Gone"),
+    (b"<!-- x", &[2, 4], None, Some(2), "Held,Held,Gone"),
+    (b"<", &[], None, Some(1), "Held,Gone"),
+    // It dies behind the head: before, between and behind the pieces held, and between those that are read.
+    (
+        b"  hello",
+        &[1, 3],
+        None,
+        None,
+        "Held,Head A5,0 ,1 h,2ello,Whole",
+    ),
+    (b"  hello", &[1, 3], None, Some(2), "Held,Head A5,Gone"),
+    (b"  hello", &[1, 3], None, Some(3), "Held,Head A5,0 ,Gone"),
+    (
+        b"  hello",
+        &[1, 3],
+        None,
+        Some(4),
+        "Held,Head A5,0 ,1 h,Gone",
+    ),
+    (b"hello", &[1, 3], None, Some(2), "Head A5,0h,Gone"),
+    // It dies behind all pieces, before the load is whole.
+    (
+        b"  hello",
+        &[1, 3],
+        None,
+        Some(5),
+        "Held,Head A5,0 ,1 h,2ello,Gone",
+    ),
+    (b"<", &[], None, Some(3), "Held,Head A5,0<,Gone"),
+    (b"", &[], None, Some(0), "Gone"),
+    (b"", &[], None, Some(1), "Head A5,Gone"),
+    // It dies where the wire would fail, which is not read.
+    (b"hello", &[1, 3], Some(0), Some(0), "Gone"),
+    (b"<p", &[1], Some(1), Some(1), "Held,Gone"),
+    (
+        b"hello",
+        &[1, 3],
+        Some(5),
+        Some(4),
+        "Head A5,0h,1el,2lo,Gone",
+    ),
     // The wire fails at once, within the window, behind the head and the pieces held, and behind all pieces.
     (b"hello", &[1, 3], Some(0), None, "Fault"),
     (b"<!-- x", &[2, 4], Some(4), None, "Held,Held,Fault"),
@@ -138,12 +197,42 @@ const ROWS: &[Row] = &[
         "Held,Head A5,0 ,1 h,Fault",
     ),
     (b"hello", &[1, 3], Some(5), None, "Head A5,0h,1el,2lo,Fault"),
+    // It fails behind each byte: the pieces are those of the bytes before.
+    (b"hello", &[1, 3], Some(1), None, "Head A5,0h,Fault"),
+    (b"hello", &[1, 3], Some(2), None, "Head A5,0h,1e,Fault"),
+    (b"hello", &[1, 3], Some(3), None, "Head A5,0h,1el,Fault"),
+    (b"hello", &[1, 3], Some(4), None, "Head A5,0h,1el,2l,Fault"),
+    // It fails while nothing is settled, and behind the bytes that settle it.
+    (b"", &[], Some(0), None, "Fault"),
+    (b"<", &[], Some(1), None, "Held,Fault"),
+    (b"<p", &[1], Some(1), None, "Held,Fault"),
+    (b"<p", &[1], Some(2), None, "Held,Blocked B4"),
+    (b"<!-- x", &[2, 4], Some(2), None, "Held,Fault"),
+    (b"<!-- x", &[2, 4], Some(6), None, "Held,Held,Held,Fault"),
+    (b"  hello", &[1, 3], Some(1), None, "Held,Fault"),
+    (b"  hello", &[1, 3], Some(2), None, "Held,Held,Fault"),
+    (
+        b"  hello",
+        &[1, 3],
+        Some(7),
+        None,
+        "Held,Head A5,0 ,1 h,2ello,Fault",
+    ),
+    // A comment that does not end is none, and the body's end settles it.
+    (
+        b"<!-- x",
+        &[2, 4],
+        None,
+        None,
+        "Held,Held,Held,Head A5,0<!,1--,2 x,Whole",
+    ),
 ];
 
 #[test]
 fn steps_to_an_end(rt: HostRuntime) -> Result<(), Fail> {
     for (body, cuts, fail_after, gone_at, want) in ROWS {
-        let steps = steps(rt.alloc(), wire(body, cuts, *fail_after)?, *gone_at)?;
+        let wire = wire(body, cuts, *fail_after)?;
+        let steps = steps(rt.alloc(), load(rt.alloc())?, wire, *gone_at)?;
         assert_eq!(rt; steps.as_str(), *want);
     }
     Ok(())
@@ -152,7 +241,333 @@ fn steps_to_an_end(rt: HostRuntime) -> Result<(), Fail> {
 #[test]
 fn the_longest_piece(rt: HostRuntime) -> Result<(), Fail> {
     let body = vec![in rt.alloc(); b'x'; MAX_PIECE]?;
-    let steps = steps(rt.alloc(), wire(body.as_slice(), &[], None)?, None)?;
+    let wire = wire(body.as_slice(), &[], None)?;
+    let steps = steps(rt.alloc(), load(rt.alloc())?, wire, None)?;
     assert_eq!(rt; steps.as_str(), "Head A5,0long,Whole");
+    Ok(())
+}
+
+#[test]
+fn a_fresh_load_has_room(rt: HostRuntime) -> Result<(), Fail> {
+    let load = load(rt.alloc())?;
+    assert!(rt; load.has_room());
+    Ok(())
+}
+
+/// A request's chain, the fields of the response's head, after how many bytes its wire fails, at which step the process is dead,
+/// and the steps.
+type CorsRow = (
+    &'static [&'static str],
+    Fields,
+    Option<u32>,
+    Option<u32>,
+    &'static str,
+);
+
+/// Requests in mode cors, of a page `<p` in two pieces. Each is settled at once, so no piece is held.
+const CORS: &[CorsRow] = &[
+    (
+        &["https://a.com/x"],
+        &[("Content-Type", "text/html")],
+        None,
+        None,
+        "Head A1,0<,1p,Whole",
+    ),
+    (
+        &["https://b.com/x"],
+        &[
+            ("Content-Type", "text/html"),
+            ("Access-Control-Allow-Origin", "*"),
+        ],
+        None,
+        None,
+        "Head A2,0<,1p,Whole",
+    ),
+    (
+        &["https://b.com/x"],
+        &[("Access-Control-Allow-Origin", "https://a.com")],
+        None,
+        None,
+        "Head A2,0<,1p,Whole",
+    ),
+    (&["https://b.com/x"], &[], None, None, "Blocked B1"),
+    (
+        &["https://b.com/x"],
+        &[("Access-Control-Allow-Origin", "https://b.com")],
+        None,
+        None,
+        "Blocked B1",
+    ),
+    // Another origin of the site is another origin, and a style sheet is asked too.
+    (
+        &["https://sub.a.com/x"],
+        &[("Content-Type", "text/css")],
+        None,
+        None,
+        "Blocked B1",
+    ),
+    // A chain that left another origin for a third one.
+    (
+        &["https://b.com/x", "https://c.com/y"],
+        &[("Access-Control-Allow-Origin", "https://a.com")],
+        None,
+        None,
+        "Blocked B1",
+    ),
+    (
+        &["https://b.com/x", "https://c.com/y"],
+        &[("Access-Control-Allow-Origin", "null")],
+        None,
+        None,
+        "Head A2,0<,1p,Whole",
+    ),
+    // The resource policy, the status and nosniff are not asked.
+    (
+        &["https://b.com/x"],
+        &[
+            ("Content-Type", "text/html"),
+            ("Access-Control-Allow-Origin", "*"),
+            ("Cross-Origin-Resource-Policy", "same-origin"),
+            ("X-Content-Type-Options", "nosniff"),
+        ],
+        None,
+        None,
+        "Head A2,0<,1p,Whole",
+    ),
+    // What is settled at once needs no read of the wire, and a dead process gets nothing.
+    (&["https://b.com/x"], &[], Some(0), None, "Blocked B1"),
+    (&["https://b.com/x"], &[], None, Some(0), "Gone"),
+    (&["https://a.com/x"], &[], Some(0), None, "Head A1,Fault"),
+    (&["https://a.com/x"], &[], Some(1), None, "Head A1,0<,Fault"),
+    (&["https://a.com/x"], &[], None, Some(0), "Gone"),
+    (&["https://a.com/x"], &[], None, Some(1), "Head A1,Gone"),
+];
+
+#[test]
+fn requests_in_mode_cors(rt: HostRuntime) -> Result<(), Fail> {
+    let origin = origin(rt.alloc(), "https://a.com/")?;
+    for (chain, fields, fail_after, gone_at, want) in CORS {
+        let head = head(rt.alloc(), 200, fields)?;
+        let load = load_of(rt.alloc(), Policy::Two, &origin, Mode::Cors, chain, &head)?;
+        let wire = wire(b"<p", &[1], *fail_after)?;
+        let steps = steps(rt.alloc(), load, wire, *gone_at)?;
+        assert_eq!(rt; steps.as_str(), *want);
+    }
+    Ok(())
+}
+
+/// A request's chain, the status and the fields of the response's head, its body, the cuts, and the steps.
+type NoCorsRow = (
+    &'static [&'static str],
+    u16,
+    Fields,
+    &'static [u8],
+    &'static [u32],
+    &'static str,
+);
+
+const OTHER: &[&str] = &["https://b.com/x"];
+
+/// Requests in mode no-cors.
+const NO_CORS: &[NoCorsRow] = &[
+    // All of the chain is of the document's site.
+    (
+        &["https://a.com/x"],
+        200,
+        &[("Content-Type", "text/html")],
+        b"<p",
+        &[1],
+        "Head A3,0<,1p,Whole",
+    ),
+    (
+        &["https://sub.a.com/x"],
+        206,
+        &[
+            ("Content-Type", "text/html"),
+            ("X-Content-Type-Options", "nosniff"),
+        ],
+        b"<p",
+        &[1],
+        "Head A3,0<,1p,Whole",
+    ),
+    (
+        &["https://b.com/x", "https://a.com/y"],
+        200,
+        &[("Content-Type", "text/html")],
+        b"<p",
+        &[],
+        "Blocked B4",
+    ),
+    // Settled by the head alone.
+    (
+        OTHER,
+        206,
+        &[("Content-Type", "text/html")],
+        b"hello",
+        &[],
+        "Blocked B2",
+    ),
+    (
+        OTHER,
+        200,
+        &[
+            ("Content-Type", "text/plain"),
+            ("X-Content-Type-Options", "nosniff"),
+        ],
+        b"hello",
+        &[],
+        "Blocked B3",
+    ),
+    (
+        OTHER,
+        200,
+        &[("Content-Type", "text/css")],
+        b"<p",
+        &[1],
+        "Head A4,0<,1p,Whole",
+    ),
+    // Settled by the body.
+    (
+        OTHER,
+        206,
+        &[("Content-Type", "text/plain")],
+        b"hello",
+        &[],
+        "Head A5,0hello,Whole",
+    ),
+    (
+        OTHER,
+        200,
+        &[("Content-Type", "text/xml")],
+        b"<?xml",
+        &[3],
+        "Held,Blocked B5",
+    ),
+    (
+        OTHER,
+        200,
+        &[("Content-Type", "application/json")],
+        b"{\"a\":1",
+        &[1, 4],
+        "Held,Held,Blocked B6",
+    ),
+    (
+        OTHER,
+        200,
+        &[("Content-Type", "application/json")],
+        b"{}x",
+        &[2],
+        "Held,Head A5,0{},1x,Whole",
+    ),
+    (
+        OTHER,
+        200,
+        &[("Content-Type", "text/javascript")],
+        b"{}&&",
+        &[1],
+        "Held,Blocked B7",
+    ),
+    (
+        OTHER,
+        200,
+        &[("Content-Type", "image/png")],
+        b"for(x",
+        &[3],
+        "Held,Head A4,0for,1(x,Whole",
+    ),
+    (OTHER, 200, &[], b"x", &[], "Head A4,0x,Whole"),
+    (OTHER, 200, &[], b"", &[], "Head A4,Whole"),
+];
+
+#[test]
+fn requests_in_mode_no_cors(rt: HostRuntime) -> Result<(), Fail> {
+    let origin = origin(rt.alloc(), "https://a.com/")?;
+    for (chain, status, fields, body, cuts, want) in NO_CORS {
+        let head = head(rt.alloc(), *status, fields)?;
+        let load = load_of(rt.alloc(), Policy::Two, &origin, Mode::NoCors, chain, &head)?;
+        let steps = steps(rt.alloc(), load, wire(body, cuts, None)?, None)?;
+        assert_eq!(rt; steps.as_str(), *want);
+    }
+    Ok(())
+}
+
+/// A request's chain, the response's resource policy, and the steps under the first and under the second policy.
+type PolicyRow = (
+    &'static [&'static str],
+    &'static str,
+    &'static str,
+    &'static str,
+);
+
+/// Requests in mode no-cors, of a style sheet `x`.
+const POLICIES: &[PolicyRow] = &[
+    (OTHER, "same-origin", "Head A4,0x,Whole", "Blocked B8"),
+    (OTHER, "same-site", "Head A4,0x,Whole", "Blocked B8"),
+    (
+        OTHER,
+        "cross-origin",
+        "Head A4,0x,Whole",
+        "Head A4,0x,Whole",
+    ),
+    (OTHER, "Same-Origin", "Head A4,0x,Whole", "Head A4,0x,Whole"),
+    (
+        &["https://sub.a.com/x"],
+        "same-origin",
+        "Head A3,0x,Whole",
+        "Blocked B8",
+    ),
+    (
+        &["https://sub.a.com/x"],
+        "same-site",
+        "Head A3,0x,Whole",
+        "Head A3,0x,Whole",
+    ),
+    (
+        &["https://a.com/x"],
+        "same-origin",
+        "Head A3,0x,Whole",
+        "Head A3,0x,Whole",
+    ),
+];
+
+/// The steps of a load of a style sheet with this resource policy.
+fn sheet_steps(
+    alloc: Global,
+    policy: Policy,
+    origin: &Origin,
+    chain: &[&str],
+    resource_policy: &str,
+) -> Result<String, Fail> {
+    let fields = [
+        ("Content-Type", "text/css"),
+        ("Cross-Origin-Resource-Policy", resource_policy),
+    ];
+    let head = head(alloc, 200, &fields)?;
+    let load = load_of(alloc, policy, origin, Mode::NoCors, chain, &head)?;
+    steps(alloc, load, wire(b"x", &[], None)?, None)
+}
+
+#[test]
+fn resource_policies(rt: HostRuntime) -> Result<(), Fail> {
+    let origin = origin(rt.alloc(), "https://a.com/")?;
+    for (chain, resource_policy, first, second) in POLICIES {
+        let one = sheet_steps(rt.alloc(), Policy::One, &origin, chain, resource_policy)?;
+        assert_eq!(rt; one.as_str(), *first);
+        let two = sheet_steps(rt.alloc(), Policy::Two, &origin, chain, resource_policy)?;
+        assert_eq!(rt; two.as_str(), *second);
+    }
+    Ok(())
+}
+
+/// A sandboxed document has no site: its own page's responses are those of another site, and a policy leaves it out.
+#[test]
+fn requests_of_a_sandbox(rt: HostRuntime) -> Result<(), Fail> {
+    let alloc = rt.alloc();
+    let origin = opaque_origin(alloc, 3, "https://a.com/", None)?;
+    let own: &[&str] = &["https://a.com/x"];
+    let steps = sheet_steps(alloc, Policy::Two, &origin, own, "cross-origin")?;
+    assert_eq!(rt; steps.as_str(), "Head A4,0x,Whole");
+    let steps = sheet_steps(alloc, Policy::Two, &origin, own, "same-site")?;
+    assert_eq!(rt; steps.as_str(), "Blocked B8");
     Ok(())
 }
