@@ -1,6 +1,6 @@
 //! Messages in the name of an origin, and commits.
 
-use super::pages::{Row, assert_replies};
+use super::pages::{Row, assert_replies, assert_replies_after};
 use std::test::Fail;
 
 /// Requests.
@@ -347,6 +347,84 @@ const COMMITS: &[Row] = &[
     ),
 ];
 
+/// Behind the pages a sandboxed frame is made, whose order waits, and another frame is navigated to a data URL, whose order waits:
+/// both orders have an opaque origin.
+const OPAQUE_ORDERS: &str = "said 0 0 9 0 frame sandboxed url 68747470733a2f2f612e636f6d2f73 => ok
+order 10 0 https://a.com opaque:10:https://a.com https://a.com/s
+said 0 0 10 0 navigate 2 https://a.com 646174613a2c78 => ok
+order 11 0 https://a.com opaque:11:https://a.com data:,x
+";
+
+/// Commits of these orders. Both origins are compared as a whole.
+const OPAQUE_COMMITS: &[Row] = &[
+    (
+        "its own opaque origin",
+        0,
+        "0 commit 10 opaque:10:https://a.com 68747470733a2f2f612e636f6d2f73",
+        "ok",
+    ),
+    (
+        "that of a data URL",
+        0,
+        "0 commit 11 opaque:11:https://a.com 646174613a2c78",
+        "ok",
+    ),
+    (
+        "the number of another document",
+        0,
+        "0 commit 10 opaque:11:https://a.com 68747470733a2f2f612e636f6d2f73",
+        "kill K10",
+    ),
+    (
+        "the opaque origin of a document that is there",
+        0,
+        "0 commit 10 opaque:3:https://a.com 68747470733a2f2f612e636f6d2f73",
+        "kill K10",
+    ),
+    (
+        "another precursor",
+        0,
+        "0 commit 10 opaque:10:https://b.com 68747470733a2f2f612e636f6d2f73",
+        "kill K10",
+    ),
+    (
+        "another precursor's scheme",
+        0,
+        "0 commit 10 opaque:10:http://a.com 68747470733a2f2f612e636f6d2f73",
+        "kill K10",
+    ),
+    (
+        "the precursor itself",
+        0,
+        "0 commit 10 https://a.com 68747470733a2f2f612e636f6d2f73",
+        "kill K10",
+    ),
+    (
+        "the precursor of a data URL itself",
+        0,
+        "0 commit 11 https://a.com 646174613a2c78",
+        "kill K10",
+    ),
+    (
+        "K9 stands before K10 for an opaque origin",
+        0,
+        "0 commit 10 opaque:11:https://a.com 646174613a2c78",
+        "kill K9",
+    ),
+    (
+        "K8 stands before them: the order is another process's",
+        1,
+        "1 commit 10 opaque:10:https://a.com 68747470733a2f2f612e636f6d2f73",
+        "kill K8",
+    ),
+    (
+        "an order that was committed",
+        0,
+        "0 commit 3 opaque:3:https://a.com 68747470733a2f2f612e636f6d2f73",
+        "drop G3",
+    ),
+];
+
 #[test]
 fn fetches_are_judged(rt: HostRuntime) -> Result<(), Fail> {
     assert_replies(&rt, rt.alloc(), FETCHES)
@@ -365,4 +443,9 @@ fn questions_are_judged(rt: HostRuntime) -> Result<(), Fail> {
 #[test]
 fn commits_are_judged(rt: HostRuntime) -> Result<(), Fail> {
     assert_replies(&rt, rt.alloc(), COMMITS)
+}
+
+#[test]
+fn commits_of_opaque_origins_are_judged(rt: HostRuntime) -> Result<(), Fail> {
+    assert_replies_after(&rt, rt.alloc(), OPAQUE_ORDERS, OPAQUE_COMMITS)
 }

@@ -43,7 +43,18 @@ pub type Row = (&'static str, u32, &'static str, &'static str);
 
 /// The replies to messages about these pages are as the rows say.
 pub fn assert_replies(rt: &impl Abort, alloc: Global, rows: &[Row]) -> Result<(), Fail> {
-    let entries = entries_of(alloc, PAGES)?;
+    assert_replies_after(rt, alloc, "", rows)
+}
+
+/// And so are those to messages after these lines too.
+pub fn assert_replies_after(
+    rt: &impl Abort,
+    alloc: Global,
+    lines: &str,
+    rows: &[Row],
+) -> Result<(), Fail> {
+    let text = format!(in alloc; "{PAGES}{lines}")?;
+    let entries = entries_of(alloc, &text)?;
     for (shows, process, message, want) in rows {
         let reply = reply_to(rt, alloc, entries.as_slice(), *process, message)?;
         assert_eq!(rt; reply.as_str(), *want, "{shows}: {message}");
