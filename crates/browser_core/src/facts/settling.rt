@@ -51,7 +51,7 @@ fn judged<V: Service>(
 
 /// What a candidate becomes.
 #[tactic(auto, using(crate::proofs::Accepting::quiet_kept))]
-fn settled<V: Service>(
+fn entry_of_candidate<V: Service>(
     alloc: Global,
     facts: &PlainFacts<'_>,
     services: &mut V,
@@ -86,7 +86,7 @@ pub(crate) fn first_entry<V: Service>(
 {
     let facts = PlainFacts::new(alloc, script, entries)?;
     match first_candidate(alloc, &facts)? {
-        Some(candidate) => Ok(Some(settled(alloc, &facts, services, candidate)?)),
+        Some(candidate) => Ok(Some(entry_of_candidate(alloc, &facts, services, candidate)?)),
         None => Ok(None),
     }
 }
@@ -107,7 +107,7 @@ fn settle<V: Service>(
     ensures err { OnErr result (KeepAllAccepted (V.kept services.new) entries.now) }
 {
     let facts = PlainFacts::new(alloc, script, entries)?;
-    settled(alloc, &facts, services, candidate)
+    entry_of_candidate(alloc, &facts, services, candidate)
 }
 
 /// What becomes of an outcome; the services have kept what the history accepts with it.

@@ -1,7 +1,7 @@
 use Rattle.std.proofs.Common.{subst}
 use Rattle.browser_tasks.specs.Candidates.{IsQuietCandidate}
 use Rattle.browser_core.proofs.Accepting.{quiet_kept}
-use Rattle.browser_core.proofs.facts.settling.settled.Goals as goal
+use Rattle.browser_core.proofs.facts.settling.entry_of_candidate.Goals as goal
 
 pub returns-in-Entry-clause-kept : goal.returns-in-Entry-clause-kept
 returns-in-Entry-clause-kept g c =
