@@ -10,20 +10,20 @@ use Rattle.browser_core.specs.declared.facts.settling.Settled.{Settled}
 pub overflow_cast-result : goal.overflow_cast-result
 overflow_cast-result g c =
     let few : length c.args.roomy < 400000 = bounded g.V.Service.rule c.args.script.now c.requires.limits c.args.roomy c.requires.kept.is_legal in
-    let same : length c.entries-place.result.now ≡ length c.args.roomy = ap (λ (h : List Entry). length h) c.entries-place.ensures in
-    let told : c.entry_count-place.result ≡ length c.entries-place.result.now = c.entry_count-place.ensures in
+    let same : length c.entries.result.now ≡ length c.args.roomy = ap (λ (h : List Entry). length h) c.entries.ensures in
+    let told : c.entry_count-place.result ≡ length c.entries.result.now = c.entry_count-place.ensures in
     omega arith
 
 pub outcome_entry-requires-clause-short : goal.outcome_entry-requires-clause-short
 outcome_entry-requires-clause-short g c =
     let few : length c.args.roomy < 400000 = bounded g.V.Service.rule c.args.script.now c.requires.limits c.args.roomy c.requires.kept.is_legal in
-    let same : length c.entries.result.now ≡ length c.args.roomy = ap (λ (h : List Entry). length h) c.entries.ensures in
+    let same : length c.entries-2.result.now ≡ length c.args.roomy = ap (λ (h : List Entry). length h) c.entries-2.ensures in
     omega arith
 
 pub returns-in-Ok-Entry-clause-kept : goal.returns-in-Ok-Entry-clause-kept
 returns-in-Ok-Entry-clause-kept g c =
-    added_in_step g.V.Service.rule c.args.script.now c.args.outcome.now c.args.roomy c.entries.result.now c.entries.ensures
+    added_in_step g.V.Service.rule c.args.script.now c.args.outcome.now c.args.roomy c.entries-2.result.now c.entries-2.ensures
     (g.V.Service.kept c.args.services.now) (g.V.Service.kept c.outcome_entry.new.services) c.in-Ok-Entry.entry c.push.result c.requires.kept
-    (subst (Settles g.V.Service.rule c.args.script.now c.entries.result.now c.args.outcome.now) c.in-Ok-Entry.field-0-is c.in-Ok-Entry.ensures.settles)
-    (subst (λ (settled : Settled). KeepAllAccepted (g.V.Service.kept c.outcome_entry.new.services) (c.entries.result.now ++ added_by settled)) c.in-Ok-Entry.field-0-is c.in-Ok-Entry.ensures.kept)
+    (subst (Settles g.V.Service.rule c.args.script.now c.entries-2.result.now c.args.outcome.now) c.in-Ok-Entry.field-0-is c.in-Ok-Entry.ensures.settles)
+    (subst (λ (settled : Settled). KeepAllAccepted (g.V.Service.kept c.outcome_entry.new.services) (c.entries-2.result.now ++ added_by settled)) c.in-Ok-Entry.field-0-is c.in-Ok-Entry.ensures.kept)
     c.push.ensures
